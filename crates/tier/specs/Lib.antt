@@ -1,0 +1,6 @@
+pub mod Answers
+pub mod Routes
+pub mod Plans
+pub mod Meaning
+pub mod Refusals
+pub mod Laws
