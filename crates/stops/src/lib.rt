@@ -4,11 +4,11 @@
 ghost use mathlib.Core.Path.{_≡_};
 ghost use Rattle.stops.specs.Stops.{member};
 
-/// The most stops that a round can have.
+/// The most stops there can be: n is at most this.
 pub const MOST_STOPS: usize = 60;
 
 /// A set of stops: bit j of its word stands for stop j. Bit 0 and the bits above n can be
-/// written; a call that wants stops only refuses such a set.
+/// written; a call that takes nothing but stops refuses such a set.
 #[derive(Clone, Copy)]
 pub struct StopSet {
     word: u64,

@@ -18,7 +18,7 @@ pub record Answers (S : Type 0) : Type 0 where
   pub reach : S → ℕ → ℕ → Option (S × ℤ)
   -- of a state, from: the charge for going home
   pub finish : S → ℕ → Option ℤ
-  -- how much the first state may be worse off than the second
+  -- of two states that stand at one stop: by how much the first may do worse than the second
   pub gap : S → S → Option ℕ
   -- the sum of the duals less the penalties
   pub credit : ℤ

@@ -1,5 +1,6 @@
--- What every tier owes: the sentences of the interface and nine laws.
+-- What every tier owes: the sentences of the interface that bar, and nine laws.
 -- The laws speak of standing states alone; a, b and c stand at one stop i, and the depot is no stop.
+-- (How many tiers stand, and what the ground is, each tier's own definition fixes.)
 use mathlib.Core.Path.{_≡_}
 use mathlib.Core.List.{List}
 use Prim.Native.Nat.{ℕ, _+_, _*_, _^_, _<_, _≤_}
@@ -17,7 +18,7 @@ use Rattle.tier.specs.Meaning.{Meaning, Outcome, taken, Comes}
 abbrev pub most-tiers : ℕ
 most-tiers = 4
 
--- the last minute of the day, which no key passes
+-- no key passes this
 abbrev pub last-key : ℕ
 last-key = 1440
 
@@ -28,7 +29,7 @@ size-of-tier = 2 ^ 36
 -- THE INTERFACE
 
 -- a leg goes from a place to a stop other than that place
-pub record Leg (n i j : ℕ) : Type 0 where
+pub record Is-leg (n i j : ℕ) : Type 0 where
   pub apart : j ≡ i → ⊥
   pub to : Stop n j
   pub from : i ≤ n
@@ -37,12 +38,12 @@ pub record Leg (n i j : ℕ) : Type 0 where
 pub record Shut {S : Type 0} (m : Answers S) : Type 0 where
   pub reach-barred : (s : S) (i j : ℕ) → m .reach s i j ≡ None
   pub finish-barred : (s : S) (i : ℕ) → m .finish s i ≡ None
-  pub gap-none : (a b : S) → m .gap a b ≡ Some 0
-  pub credit-none : m .credit ≡ pos 0
+  pub gap-zero : (a b : S) → m .gap a b ≡ Some 0
+  pub credit-zero : m .credit ≡ pos 0
 
 pub record Interface {S : Type 0} (m : Answers S) : Type 0 where
   -- reach is barred if `to` equals `from`, if `to` is no stop, or if `from` is neither a stop nor the depot
-  pub reach-is-leg : (s t : S) (i j : ℕ) (x : ℤ) → m .reach s i j ≡ Some (t, x) → Leg (m .stops) i j
+  pub reach-is-leg : (s t : S) (i j : ℕ) (x : ℤ) → m .reach s i j ≡ Some (t, x) → Is-leg (m .stops) i j
   -- finish is barred if `from` is no stop
   pub finish-from-stop : (s : S) (i : ℕ) (x : ℤ) → m .finish s i ≡ Some x → Stop (m .stops) i
   pub shut-over-four : most-tiers < m .tiers → Shut m
@@ -55,7 +56,7 @@ pub record Gap-within {S : Type 0} (m : Answers S) (a b : S) (most : ℕ) : Type
   pub present : m .gap a b ≡ Some width
   pub small : width ≤ most
 
--- from i the state a reaches j too, and its charge with the gap to t is at most this
+-- from i the state a reaches j too, as `next`, and the charge with the gap from `next` to t is at most this
 pub record Reaches-within {S : Type 0} (m : Answers S) (i j : ℕ) (a t : S) (most : ℤ) : Type 0 where
   pub next : S
   pub charge : ℤ
@@ -70,7 +71,7 @@ pub record Finishes-within {S : Type 0} (m : Answers S) (i : ℕ) (a : S) (most 
   pub finishes : m .finish a i ≡ Some charge
   pub small : charge ≤ℤ most
 
--- The gap bounds how much worse a state can do than another, in all that follows.
+-- The gap bounds how much worse a state can do than another at the same stop, in all that follows.
 pub record Gap-laws {S : Type 0} (m : Answers S) : Type 0 where
   -- 1: a state is not behind itself
   pub gap-to-itself : (i : ℕ) (a : S) → Stop (m .stops) i → Standing m i a → m .gap a a ≡ Some 0
@@ -81,7 +82,7 @@ pub record Gap-laws {S : Type 0} (m : Answers S) : Type 0 where
   -- 4: where b finishes, a finishes too, for no more than the gap above
   pub finish-follows : (i : ℕ) (a b : S) (g : ℕ) (y : ℤ) → Stop (m .stops) i → Standing m i a → Standing m i b → m .gap a b ≡ Some g → m .finish b i ≡ Some y → Finishes-within m i a (y +ℤ pos g)
 
--- at most this in size, for each of the tiers
+-- at most 2 ^ 36 in size for each tier
 abbrev pub Small : ℕ → ℤ → Type 0
 Small tiers x = natAbs x ≤ tiers * size-of-tier
 
@@ -93,16 +94,17 @@ pub record Size-laws {S : Type 0} (m : Answers S) : Type 0 where
   pub gap-small : m .tiers ≤ most-tiers → (i : ℕ) (a b : S) (g : ℕ) → Stop (m .stops) i → Standing m i a → Standing m i b → m .gap a b ≡ Some g → Small (m .tiers) (pos g)
   pub credit-small : m .tiers ≤ most-tiers → Small (m .tiers) (m .credit)
 
--- 6: keys begin at 0, stay within the day and rise with each reach; no state is behind by a gap and later
+-- 6: keys begin at 0, pass no limit and rise with each reach; where there is a gap from a to b, a's key is at
+-- most b's
 pub record Key-laws {S : Type 0} (m : Answers S) : Type 0 where
   pub start-at-zero : m .key (m .start) ≡ 0
-  pub key-within-day : (i : ℕ) (s : S) → Standing m i s → m .key s ≤ last-key
+  pub key-in-range : (i : ℕ) (s : S) → Standing m i s → m .key s ≤ last-key
   pub reach-raises-key : (i j : ℕ) (s t : S) (x : ℤ) → Standing m i s → m .reach s i j ≡ Some (t, x) → m .key s < m .key t
   pub gap-orders-keys : (i : ℕ) (a b : S) (g : ℕ) → Stop (m .stops) i → Standing m i a → Standing m i b → m .gap a b ≡ Some g → m .key a ≤ m .key b
 
 -- THE LAWS OF PLANS AND CALLS
 
--- every route is admitted, and together they cost at most `cost` less the credit
+-- every route is admitted, and their reduced costs sum to at most `cost` less the credit
 pub record Pays {S : Type 0} (m : Answers S) (rs : List (List ℕ)) (cost : ℤ) : Type 0 where
   pub sum : ℤ
   -- there is a sum only if each route is admitted
@@ -110,7 +112,7 @@ pub record Pays {S : Type 0} (m : Answers S) (rs : List (List ℕ)) (cost : ℤ)
   pub at-most : (sum +ℤ m .credit) ≤ℤ cost
 
 -- 7: up to four tiers, whatever the number of vans, every plan is admitted and costs at least the credit and
--- its reduced costs together
+-- the sum of its reduced costs
 abbrev pub Plans-pay : {S : Type 0} → Answers S → (List ℕ → Option ℤ) → Type 0
 Plans-pay m ground = m .tiers ≤ most-tiers → (vans : ℕ) (rs : List (List ℕ)) (cost : ℤ) → Plan (m .stops) ground vans rs cost → Pays m rs cost
 

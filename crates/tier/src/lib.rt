@@ -38,7 +38,7 @@ pub trait Tier {
 
     ghost value: { Self → meaning .Value };
 
-    // The nine laws, of every value that the tier can come to.
+    // The interface's sentences and the nine laws, of every value that the tier can come to.
     law lawful: { (t : Self) → Lawful meaning (value t) };
 
     /// The stops are 1 to this number; place 0 is the depot.
@@ -65,7 +65,8 @@ pub trait Tier {
     fn finish(&self, state: Self::State, from: usize) -> Option<i64>
         ensures { λ r. ⌜ r ≡ meaning .answers (value (now (self .entry))) .finish state from ⌝ };
 
-    /// By how much `a` may do worse than `b`, in all that follows; or absent.
+    /// Of two states that stand at one stop: by how much `a` may do worse than `b` in all that
+    /// follows, or absent.
     fn gap(&self, a: Self::State, b: Self::State) -> Option<u64>
         ensures { λ r. ⌜ r ≡ meaning .answers (value (now (self .entry))) .gap a b ⌝ };
 
@@ -73,9 +74,13 @@ pub trait Tier {
     fn credit(&self) -> i64
         ensures { λ r. ⌜ r ≡ meaning .answers (value (now (self .entry))) .credit ⌝ };
 
+    /// Puts the number at `index` of the tier at that height to `amount`, as a stop's dual or a
+    /// cut's penalty; a refusal leaves the tier as it was.
     fn set(&mut self, tier: usize, index: usize, amount: i64) -> Result<(), Refusal>
         ensures { λ r. ⌜ Did (meaning .sets (value (now (self .entry))) tier index amount) (value (now (self .entry))) r (value (now (self .exit))) ⌝ };
 
+    /// Adds `members` to what the tier at that height remembers at `index`, or makes something new
+    /// there; a refusal leaves the tier as it was.
     fn tighten(&mut self, tier: usize, index: usize, members: StopSet, amount: i64) -> Result<(), Refusal>
         ensures { λ r. ⌜ Did (meaning .tightens (value (now (self .entry))) tier index (members .word) amount) (value (now (self .entry))) r (value (now (self .exit))) ⌝ };
 }

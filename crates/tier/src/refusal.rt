@@ -11,7 +11,7 @@ pub enum Refusal {
     NoSuchIndex,
     /// 9: the amount is out of range, or not 0 where 0 is due
     BadAmount,
-    /// 10: the set has a member that is no stop, or a new cut has not three
+    /// 10: the set has a member that is no stop, or a new cut has not exactly three
     BadMembers,
     /// 11: the table of cuts is full
     TableFull,

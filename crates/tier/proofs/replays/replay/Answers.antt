@@ -44,7 +44,7 @@ moved g c =
     let e = sym (c .reach .ensures) ∙ c .in-Continue-next .was tt in
     record {
       rises = l .keys .reach-raises-key _ _ _ _ _ stands e;
-      in-day = l .keys .key-within-day _ _ (reached _ _ _ stands e);
+      in-day = l .keys .key-in-range _ _ (reached _ _ _ stands e);
       small = reach-bound m (l .interface) (l .sizes) _ _ _ _ _ stands e;
       reaches = e;
       stands = reached _ _ _ stands e;
@@ -75,7 +75,7 @@ pub add-result : need.add-result
 add-result g c =
     let l = laws-of g (c .args .tier .now) in
     let h = home-small g (need.at·add-result g c .In-Continue-home) in
-    let d = l .keys .key-within-day _ _ (c .loop-to .inv .1) in
+    let d = l .keys .key-in-range _ _ (c .loop-to .inv .1) in
     let b = c .loop-to .inv .2 in
     omega (arith, ints)
 
@@ -84,6 +84,6 @@ returns g c =
     let m = g .T·Tier .meaning .answers (g .T·Tier .value (c .args .tier .now)) in
     let l = laws-of g (c .args .tier .now) in
     let h = home-small g (need.at·returns g c .In-Continue-home) in
-    let d = l .keys .key-within-day _ _ (c .loop-to .inv .1) in
+    let d = l .keys .key-in-range _ _ (c .loop-to .inv .1) in
     let b = c .loop-to .inv .2 in
     goes-home m _ _ _ _ _ _ _ (c .loop-to-test .left) (c .loop-to .inv .0) (sym (c .finish .ensures) ∙ c .in-Continue-home .was tt) (omega (arith, ints))

@@ -1,0 +1,154 @@
+//! Making a book, and reading it.
+ghost use mathlib.Core.Bool.{false, true, cond};
+ghost use mathlib.Core.Path.{_≡_};
+ghost use Prim.Native.Nat.{_*_};
+ghost use Rattle.std.specs.Options.{Cases as BySome};
+ghost use Rattle.std.specs.Results.{isOk};
+ghost use Rattle.std.specs.declared.option.Option.the-variants.{None, Some};
+ghost use Rattle.book.specs.Ranges.{between, fleet-fits, visit-fits, leg-fits};
+ghost use Rattle.book.specs.Books.{pages, is-stop, is-place, visit-at, leg-index, leg-at, opened, empty-pages, can-put-visit, with-visit, can-put-leg, with-leg};
+use super::book::Book;
+use super::limits::LAST_MINUTE;
+use super::limits::MOST_BATTERY;
+use super::limits::MOST_COST;
+use super::limits::MOST_VANS;
+use super::limits::MOST_VISITS;
+use super::limits::ROW_LENGTH;
+use super::limits::TABLE_LENGTH;
+use super::parts::Fleet;
+use super::parts::Leg;
+use super::parts::Visit;
+use stops::MOST_STOPS;
+
+/// A number is outside its range, or a stop or place is not one of the book's.
+#[derive(Clone, Copy)]
+pub struct OutOfRange;
+
+const BLANK_VISIT: Visit = Visit { opens: 0, closes: 0, load: 0, charger: false };
+
+const BLANK_LEG: Leg = Leg { cost: 0, minutes: 1 };
+
+// Whether the numbers of a deck's first line are in their ranges.
+fn fits_fleet(stops: usize, fleet: Fleet) -> bool
+    ensures { λ r. ⌜ r ≡ fleet-fits stops fleet ⌝ }
+{
+    1 <= stops
+        && stops <= MOST_STOPS
+        && 1 <= fleet.vans
+        && fleet.vans <= MOST_VANS
+        && 1 <= fleet.battery
+        && fleet.battery <= MOST_BATTERY
+        && 1 <= fleet.most
+        && fleet.most <= MOST_VISITS
+}
+
+fn fits_visit(visit: Visit) -> bool
+    ensures { λ r. ⌜ r ≡ visit-fits visit ⌝ }
+{
+    visit.opens <= visit.closes && visit.closes <= LAST_MINUTE
+}
+
+fn fits_leg(leg: Leg) -> bool
+    ensures { λ r. ⌜ r ≡ leg-fits leg ⌝ }
+{
+    leg.cost <= MOST_COST && 1 <= leg.minutes && leg.minutes <= LAST_MINUTE
+}
+
+impl Book {
+    /// The book without stops.
+    pub fn empty() -> Book
+        ensures { λ r. ⌜ pages r ≡ empty-pages ⌝ }
+    {
+        Book {
+            stops: 0,
+            fleet: Fleet { vans: 0, capacity: 0, battery: 0, most: 0 },
+            visits: [BLANK_VISIT; ROW_LENGTH],
+            legs: [BLANK_LEG; TABLE_LENGTH],
+        }
+    }
+
+    /// A book of this many stops, of which nothing is said yet: windows from 0 to 0, no load, no
+    /// charger, legs of cost 0 and one minute. `None` if a number is outside its range.
+    pub fn new(stops: usize, fleet: Fleet) -> Option<Book>
+        ensures { λ r. ⌜ BySome r (fleet-fits stops fleet ≡ false) (λ b. (fleet-fits stops fleet ≡ true) × (pages b ≡ opened stops fleet)) ⌝ }
+    {
+        if !fits_fleet(stops, fleet) {
+            return None;
+        }
+        Some(Book {
+            stops,
+            fleet,
+            visits: [BLANK_VISIT; ROW_LENGTH],
+            legs: [BLANK_LEG; TABLE_LENGTH],
+        })
+    }
+
+    pub fn stops(&self) -> usize
+        ensures { λ r. ⌜ r ≡ pages (now (self .entry)) .stops ⌝ }
+    {
+        self.stops
+    }
+
+    pub fn fleet(&self) -> Fleet
+        ensures { λ r. ⌜ r ≡ pages (now (self .entry)) .fleet ⌝ }
+    {
+        self.fleet
+    }
+
+    /// What the stop asks for, if it is one of the book's.
+    pub fn visit(&self, stop: usize) -> Option<Visit>
+        ensures { λ r. ⌜ r ≡ cond (is-stop (pages (now (self .entry))) stop) (Some (visit-at (pages (now (self .entry))) stop)) None ⌝ }
+    {
+        if stop < 1 || stop > self.stops {
+            return None;
+        }
+        Some(self.visits[stop])
+    }
+
+    /// The leg between two places of the book, (0, 0) from a place to itself.
+    pub fn leg(&self, from: usize, to: usize) -> Option<Leg>
+        ensures { λ r. ⌜ r ≡ cond (is-place (pages (now (self .entry))) from) (cond (is-place (pages (now (self .entry))) to) (Some (leg-at (pages (now (self .entry))) from to)) None) None ⌝ }
+    {
+        if from > self.stops || to > self.stops {
+            return None;
+        }
+        if from == to {
+            return Some(Leg { cost: 0, minutes: 0 });
+        }
+        Some(self.legs[from * ROW_LENGTH + to])
+    }
+
+    /// Says what a stop asks for; a refusal leaves the book as it was.
+    pub fn put_visit(&mut self, stop: usize, visit: Visit) -> Result<(), OutOfRange>
+        ensures answer { λ r. ⌜ isOk r ≡ can-put-visit (pages (now (self .entry))) stop visit ⌝ }
+        ensures book { λ r. ⌜ pages (now (self .exit)) ≡ cond (can-put-visit (pages (now (self .entry))) stop visit) (with-visit (pages (now (self .entry))) stop visit) (pages (now (self .entry))) ⌝ }
+    {
+        if stop < 1 || stop > self.stops || !fits_visit(visit) {
+            return Err(OutOfRange);
+        }
+        self.visits[stop] = visit;
+        Ok(())
+    }
+
+    /// Says what a leg costs and takes; from a place to itself only (0, 0) is taken. A refusal
+    /// leaves the book as it was.
+    pub fn put_leg(&mut self, from: usize, to: usize, leg: Leg) -> Result<(), OutOfRange>
+        ensures answer { λ r. ⌜ isOk r ≡ can-put-leg (pages (now (self .entry))) from to leg ⌝ }
+        ensures book { λ r. ⌜ pages (now (self .exit)) ≡ cond (can-put-leg (pages (now (self .entry))) from to leg) (with-leg (pages (now (self .entry))) from to leg) (pages (now (self .entry))) ⌝ }
+    {
+        if from > self.stops || to > self.stops {
+            return Err(OutOfRange);
+        }
+        if from == to {
+            if leg.cost == 0 && leg.minutes == 0 {
+                return Ok(());
+            }
+            return Err(OutOfRange);
+        }
+        if !fits_leg(leg) {
+            return Err(OutOfRange);
+        }
+        self.legs[from * ROW_LENGTH + to] = leg;
+        Ok(())
+    }
+}
