@@ -1,2 +1,5 @@
 pub mod Options
+pub mod Outcomes
 pub mod Walks
+pub mod InStep
+pub mod Counts

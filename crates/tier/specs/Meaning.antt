@@ -11,6 +11,11 @@ pub data Outcome (V : Type 0) : Type 0 where
   taken : V → Outcome V
   refused : ℕ → Outcome V
 
+-- the same outcome, of a value that stands inside a larger one
+abbrev pub lifted : {V W : Type 0} → (V → W) → Outcome V → Outcome W
+lifted f (taken v) = taken (f v)
+lifted f (refused n) = refused n
+
 pub record Meaning (S : Type 0) : Type 1 where
   -- what a tier of this kind can stand at
   pub Value : Type 0

@@ -1,0 +1,3 @@
+pub mod Credits
+pub mod Plans
+pub mod Lawful
