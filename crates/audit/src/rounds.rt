@@ -1,0 +1,28 @@
+//! The rounds that are audited.
+use book::Book;
+use book::Fleet;
+use book::Leg;
+use book::OutOfRange;
+use book::Visit;
+
+/// Two visits whose windows both open at minute zero.
+pub fn two_visits(capacity: u16) -> Result<Book, OutOfRange> {
+    let fleet = Fleet { vans: 2, capacity, battery: 40, most: 4 };
+    let mut book = Book::new(2, fleet).ok_or(OutOfRange)?;
+    book.put_visit(1, Visit { opens: 0, closes: 10, load: 2, charger: false })?;
+    book.put_visit(2, Visit { opens: 0, closes: 20, load: 3, charger: true })?;
+    book.put_leg(0, 1, Leg { cost: 10, minutes: 5 })?;
+    book.put_leg(0, 2, Leg { cost: 12, minutes: 6 })?;
+    book.put_leg(1, 0, Leg { cost: 10, minutes: 5 })?;
+    book.put_leg(1, 2, Leg { cost: 4, minutes: 3 })?;
+    book.put_leg(2, 0, Leg { cost: 12, minutes: 6 })?;
+    book.put_leg(2, 1, Leg { cost: 7, minutes: 3 })?;
+    Ok(book)
+}
+
+/// The same, but the first stop closes at minute 8.
+pub fn early_close() -> Result<Book, OutOfRange> {
+    let mut book = two_visits(10)?;
+    book.put_visit(1, Visit { opens: 0, closes: 8, load: 2, charger: false })?;
+    Ok(book)
+}

@@ -1,0 +1,3 @@
+//! The worked figures: small examples that a planner can check by hand.
+#[cfg(test)]
+mod rounds;
