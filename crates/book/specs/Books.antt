@@ -1,72 +1,70 @@
 -- What a book holds, and what each call makes of it.
-use mathlib.Core.Bool.{Bool, cond, _&&_, not}
+use mathlib.Core.Bool.{Bool, cond, _&&_}
 use mathlib.Core.List.{List}
-use Prim.Native.Nat.{ℕ, _+_, _*_}
+use Prim.Native.Nat.{ℕ, _*_}
 use lib.Dec.{eqb, leb}
 use lib.ListN.{getD, set, replicate}
-use Rattle.std.specs.declared.option.Option.{Option}
-use Rattle.std.specs.declared.option.Option.the-variants.{None, Some}
-use Rattle.book.specs.Limits.{row-length}
-use Rattle.book.specs.Ranges.{between, fleet-fits, visit-fits, leg-fits, blank-visit, blank-leg}
+use Rattle.stops.specs.Stops.{most-places}
+use Rattle.book.specs.Ranges.{between, visit-fits, leg-fits, blank-visit, blank-leg, apart, leg-index}
 use Rattle.book.specs.declared.parts.Fleet.{Fleet}
 use Rattle.book.specs.declared.parts.Visit.{Visit}
 use Rattle.book.specs.declared.parts.Leg.{Leg}
 use Rattle.book.specs.declared.book.Book.{Book}
 
--- A book without the proofs that its numbers are in range. The visit of stop j stands at j; the leg from i to j
--- stands at i * 61 + j, and what stands there from a place to itself is never read.
-pub record Pages : Type 0 where
+-- A book without the proofs that its numbers are in range. The visit of stop j stands at j, the leg from i to j
+-- at i * 61 + j; every other place of the two tables is blank, so that books with the same deck are the same.
+pub record Contents : Type 0 where
   pub stops : ℕ
   pub fleet : Fleet
   pub visits : List Visit
   pub legs : List Leg
 
-abbrev pub pages : Book → Pages
-pages b = record { stops = b .stops; fleet = b .fleet; visits = b .visits; legs = b .legs }
+abbrev pub contents : Book → Contents
+contents b = record { stops = b .stops; fleet = b .fleet; visits = b .visits; legs = b .legs }
 
 -- a stop of the book
-abbrev pub is-stop : Pages → ℕ → Bool
-is-stop p j = between 1 (p .stops) j
+abbrev pub is-stop : Contents → ℕ → Bool
+is-stop b j = between 1 (b .stops) j
 
 -- a stop of the book, or the depot
-abbrev pub is-place : Pages → ℕ → Bool
-is-place p j = leb j (p .stops)
+abbrev pub is-place : Contents → ℕ → Bool
+is-place b j = leb j (b .stops)
 
-abbrev pub visit-at : Pages → ℕ → Visit
-visit-at p j = getD (p .visits) j blank-visit
+-- from a place to a stop other than that place
+abbrev pub can-go : Contents → ℕ → ℕ → Bool
+can-go b i j = is-stop b j && apart (b .stops) i j
+
+-- of a stop of the book
+abbrev pub visit-at : Contents → ℕ → Visit
+visit-at b j = getD (b .visits) j blank-visit
 
 -- from a place to itself
 abbrev pub no-leg : Leg
 no-leg = record { cost = 0; minutes = 0 }
 
-abbrev pub leg-index : ℕ → ℕ → ℕ
-leg-index i j = i * row-length + j
-
-abbrev pub leg-at : Pages → ℕ → ℕ → Leg
-leg-at p i j = cond (eqb i j) no-leg (getD (p .legs) (leg-index i j) blank-leg)
+-- of two places of the book
+abbrev pub leg-at : Contents → ℕ → ℕ → Leg
+leg-at b i j = cond (eqb i j) no-leg (getD (b .legs) (leg-index i j) blank-leg)
 
 -- MAKING A BOOK
 
 -- the first line is read: nothing is said yet of the stops and the legs
-abbrev pub opened : ℕ → Fleet → Pages
-opened stops f = record { stops = stops; fleet = f; visits = replicate row-length blank-visit; legs = replicate (row-length * row-length) blank-leg }
+abbrev pub opened : ℕ → Fleet → Contents
+opened stops f = record { stops = stops; fleet = f; visits = replicate most-places blank-visit; legs = replicate (most-places * most-places) blank-leg }
 
 -- the book without stops
-abbrev pub empty-pages : Pages
-empty-pages = opened 0 (record { vans = 0; capacity = 0; battery = 0; most = 0 })
+abbrev pub empty-book : Contents
+empty-book = opened 0 (record { vans = 0; capacity = 0; battery = 0; most = 0 })
 
-abbrev pub opens-as : ℕ → Fleet → Option Pages
-opens-as stops f = cond (fleet-fits stops f) (Some (opened stops f)) None
+abbrev pub can-put-visit : Contents → ℕ → Visit → Bool
+can-put-visit b j v = is-stop b j && visit-fits v
 
-abbrev pub can-put-visit : Pages → ℕ → Visit → Bool
-can-put-visit p j v = is-stop p j && visit-fits v
-
-abbrev pub with-visit : Pages → ℕ → Visit → Pages
-with-visit p j v = record { stops = p .stops; fleet = p .fleet; visits = set (p .visits) j v; legs = p .legs }
+abbrev pub with-visit : Contents → ℕ → Visit → Contents
+with-visit b j v = record { stops = b .stops; fleet = b .fleet; visits = set (b .visits) j v; legs = b .legs }
 
 -- between different places a leg in its ranges, from a place to itself (0, 0)
-abbrev pub can-put-leg : Pages → ℕ → ℕ → Leg → Bool
-can-put-leg p i j l = is-place p i && is-place p j && cond (eqb i j) (eqb (l .cost) 0 && eqb (l .minutes) 0) (leg-fits l)
+abbrev pub can-put-leg : Contents → ℕ → ℕ → Leg → Bool
+can-put-leg b i j l = is-place b i && is-place b j && cond (eqb i j) (eqb (l .cost) 0 && eqb (l .minutes) 0) (leg-fits l)
 
-abbrev pub with-leg : Pages → ℕ → ℕ → Leg → Pages
-with-leg p i j l = cond (eqb i j) p (record { stops = p .stops; fleet = p .fleet; visits = p .visits; legs = set (p .legs) (leg-index i j) l })
+abbrev pub with-leg : Contents → ℕ → ℕ → Leg → Contents
+with-leg b i j l = cond (eqb i j) b (record { stops = b .stops; fleet = b .fleet; visits = b .visits; legs = set (b .legs) (leg-index i j) l })

@@ -1,23 +1,22 @@
 //! Making a book, and reading it.
 ghost use mathlib.Core.Bool.{false, true, cond};
 ghost use mathlib.Core.Path.{_≡_};
-ghost use Prim.Native.Nat.{_*_};
-ghost use Rattle.std.specs.Options.{Cases as BySome};
-ghost use Rattle.std.specs.Results.{isOk};
+ghost use Rattle.std.specs.Results.{Cases, isOk};
 ghost use Rattle.std.specs.declared.option.Option.the-variants.{None, Some};
-ghost use Rattle.book.specs.Ranges.{between, fleet-fits, visit-fits, leg-fits};
-ghost use Rattle.book.specs.Books.{pages, is-stop, is-place, visit-at, leg-index, leg-at, opened, empty-pages, can-put-visit, with-visit, can-put-leg, with-leg};
+ghost use Rattle.book.specs.Ranges.{fleet-fits, visit-fits, leg-fits};
+ghost use Rattle.book.specs.Books.{contents, is-stop, is-place, visit-at, leg-at, opened, empty-book, can-put-visit, with-visit, can-put-leg, with-leg};
 use super::book::Book;
 use super::limits::LAST_MINUTE;
 use super::limits::MOST_BATTERY;
 use super::limits::MOST_COST;
+use super::limits::MOST_MADE;
+use super::limits::MOST_MINUTES;
 use super::limits::MOST_VANS;
-use super::limits::MOST_VISITS;
-use super::limits::ROW_LENGTH;
 use super::limits::TABLE_LENGTH;
 use super::parts::Fleet;
 use super::parts::Leg;
 use super::parts::Visit;
+use stops::MOST_PLACES;
 use stops::MOST_STOPS;
 
 /// A number is outside its range, or a stop or place is not one of the book's.
@@ -39,7 +38,7 @@ fn fits_fleet(stops: usize, fleet: Fleet) -> bool
         && 1 <= fleet.battery
         && fleet.battery <= MOST_BATTERY
         && 1 <= fleet.most
-        && fleet.most <= MOST_VISITS
+        && fleet.most <= MOST_MADE
 }
 
 fn fits_visit(visit: Visit) -> bool
@@ -51,53 +50,53 @@ fn fits_visit(visit: Visit) -> bool
 fn fits_leg(leg: Leg) -> bool
     ensures { λ r. ⌜ r ≡ leg-fits leg ⌝ }
 {
-    leg.cost <= MOST_COST && 1 <= leg.minutes && leg.minutes <= LAST_MINUTE
+    leg.cost <= MOST_COST && 1 <= leg.minutes && leg.minutes <= MOST_MINUTES
 }
 
 impl Book {
     /// The book without stops.
     pub fn empty() -> Book
-        ensures { λ r. ⌜ pages r ≡ empty-pages ⌝ }
+        ensures { λ r. ⌜ contents r ≡ empty-book ⌝ }
     {
         Book {
             stops: 0,
             fleet: Fleet { vans: 0, capacity: 0, battery: 0, most: 0 },
-            visits: [BLANK_VISIT; ROW_LENGTH],
+            visits: [BLANK_VISIT; MOST_PLACES],
             legs: [BLANK_LEG; TABLE_LENGTH],
         }
     }
 
-    /// A book of this many stops, of which nothing is said yet: windows from 0 to 0, no load, no
-    /// charger, legs of cost 0 and one minute. `None` if a number is outside its range.
-    pub fn new(stops: usize, fleet: Fleet) -> Option<Book>
-        ensures { λ r. ⌜ BySome r (fleet-fits stops fleet ≡ false) (λ b. (fleet-fits stops fleet ≡ true) × (pages b ≡ opened stops fleet)) ⌝ }
+    /// A book of this many stops, of which nothing is said yet: until a visit or a leg is put, the
+    /// window is from 0 to 0, without load or charger, and the leg costs 0 and takes one minute.
+    pub fn new(stops: usize, fleet: Fleet) -> Result<Book, OutOfRange>
+        ensures { λ r. ⌜ Cases r (λ b. (fleet-fits stops fleet ≡ true) × (contents b ≡ opened stops fleet)) (λ _. fleet-fits stops fleet ≡ false) ⌝ }
     {
         if !fits_fleet(stops, fleet) {
-            return None;
+            return Err(OutOfRange);
         }
-        Some(Book {
+        Ok(Book {
             stops,
             fleet,
-            visits: [BLANK_VISIT; ROW_LENGTH],
+            visits: [BLANK_VISIT; MOST_PLACES],
             legs: [BLANK_LEG; TABLE_LENGTH],
         })
     }
 
     pub fn stops(&self) -> usize
-        ensures { λ r. ⌜ r ≡ pages (now (self .entry)) .stops ⌝ }
+        ensures { λ r. ⌜ r ≡ contents (now (self .entry)) .stops ⌝ }
     {
         self.stops
     }
 
     pub fn fleet(&self) -> Fleet
-        ensures { λ r. ⌜ r ≡ pages (now (self .entry)) .fleet ⌝ }
+        ensures { λ r. ⌜ r ≡ contents (now (self .entry)) .fleet ⌝ }
     {
         self.fleet
     }
 
     /// What the stop asks for, if it is one of the book's.
     pub fn visit(&self, stop: usize) -> Option<Visit>
-        ensures { λ r. ⌜ r ≡ cond (is-stop (pages (now (self .entry))) stop) (Some (visit-at (pages (now (self .entry))) stop)) None ⌝ }
+        ensures { λ r. ⌜ r ≡ cond (is-stop (contents (now (self .entry))) stop) (Some (visit-at (contents (now (self .entry))) stop)) None ⌝ }
     {
         if stop < 1 || stop > self.stops {
             return None;
@@ -107,7 +106,7 @@ impl Book {
 
     /// The leg between two places of the book, (0, 0) from a place to itself.
     pub fn leg(&self, from: usize, to: usize) -> Option<Leg>
-        ensures { λ r. ⌜ r ≡ cond (is-place (pages (now (self .entry))) from) (cond (is-place (pages (now (self .entry))) to) (Some (leg-at (pages (now (self .entry))) from to)) None) None ⌝ }
+        ensures { λ r. ⌜ r ≡ cond (is-place (contents (now (self .entry))) from) (cond (is-place (contents (now (self .entry))) to) (Some (leg-at (contents (now (self .entry))) from to)) None) None ⌝ }
     {
         if from > self.stops || to > self.stops {
             return None;
@@ -115,13 +114,13 @@ impl Book {
         if from == to {
             return Some(Leg { cost: 0, minutes: 0 });
         }
-        Some(self.legs[from * ROW_LENGTH + to])
+        Some(self.legs[from * MOST_PLACES + to])
     }
 
     /// Says what a stop asks for; a refusal leaves the book as it was.
     pub fn put_visit(&mut self, stop: usize, visit: Visit) -> Result<(), OutOfRange>
-        ensures answer { λ r. ⌜ isOk r ≡ can-put-visit (pages (now (self .entry))) stop visit ⌝ }
-        ensures book { λ r. ⌜ pages (now (self .exit)) ≡ cond (can-put-visit (pages (now (self .entry))) stop visit) (with-visit (pages (now (self .entry))) stop visit) (pages (now (self .entry))) ⌝ }
+        ensures answer { λ r. ⌜ isOk r ≡ can-put-visit (contents (now (self .entry))) stop visit ⌝ }
+        ensures book { λ r. ⌜ contents (now (self .exit)) ≡ cond (can-put-visit (contents (now (self .entry))) stop visit) (with-visit (contents (now (self .entry))) stop visit) (contents (now (self .entry))) ⌝ }
     {
         if stop < 1 || stop > self.stops || !fits_visit(visit) {
             return Err(OutOfRange);
@@ -133,22 +132,31 @@ impl Book {
     /// Says what a leg costs and takes; from a place to itself only (0, 0) is taken. A refusal
     /// leaves the book as it was.
     pub fn put_leg(&mut self, from: usize, to: usize, leg: Leg) -> Result<(), OutOfRange>
-        ensures answer { λ r. ⌜ isOk r ≡ can-put-leg (pages (now (self .entry))) from to leg ⌝ }
-        ensures book { λ r. ⌜ pages (now (self .exit)) ≡ cond (can-put-leg (pages (now (self .entry))) from to leg) (with-leg (pages (now (self .entry))) from to leg) (pages (now (self .entry))) ⌝ }
+        ensures answer { λ r. ⌜ isOk r ≡ can-put-leg (contents (now (self .entry))) from to leg ⌝ }
+        ensures book { λ r. ⌜ contents (now (self .exit)) ≡ cond (can-put-leg (contents (now (self .entry))) from to leg) (with-leg (contents (now (self .entry))) from to leg) (contents (now (self .entry))) ⌝ }
     {
-        if from > self.stops || to > self.stops {
+        if !self.takes_leg(from, to, leg) {
             return Err(OutOfRange);
+        }
+        if from != to {
+            self.legs[from * MOST_PLACES + to] = leg;
+        }
+        Ok(())
+    }
+
+    // Whether the leg can be put: between places of the book, in its ranges.
+    fn takes_leg(&self, from: usize, to: usize, leg: Leg) -> bool
+        ensures { λ r. ⌜ r ≡ can-put-leg (contents (now (self .entry))) from to leg ⌝ }
+    {
+        if from > self.stops {
+            return false;
+        }
+        if to > self.stops {
+            return false;
         }
         if from == to {
-            if leg.cost == 0 && leg.minutes == 0 {
-                return Ok(());
-            }
-            return Err(OutOfRange);
+            return leg.cost == 0 && leg.minutes == 0;
         }
-        if !fits_leg(leg) {
-            return Err(OutOfRange);
-        }
-        self.legs[from * ROW_LENGTH + to] = leg;
-        Ok(())
+        fits_leg(leg)
     }
 }

@@ -11,6 +11,12 @@ each-set P d (x ∷ xs) zero y h p (suc i) = h (suc i)
 each-set P d (x ∷ xs) (suc k) y h p zero = h 0
 each-set P d (x ∷ xs) (suc k) y h p (suc i) = each-set P d xs k y (λ i. h (suc i)) p i
 
+-- at the place that is set, if there is one
+pub getD-set-at : {A : Type 0} (P : A → Type 0) (xs : List A) (k : ℕ) (y d : A) → P y → P (getD xs k d) → P (getD (set xs k y) k d)
+getD-set-at P [] k y d p q = q
+getD-set-at P (x ∷ xs) zero y d p q = p
+getD-set-at P (x ∷ xs) (suc k) y d p q = getD-set-at P xs k y d p q
+
 -- it holds of copies of an element of which it holds
 pub each-copy : {A : Type 0} (P : A → Type 0) (d : A) (n : ℕ) (x : A) → P x → P d → (i : ℕ) → P (getD (replicate n x) i d)
 each-copy P d zero x p q i = q

@@ -7,6 +7,9 @@ ghost use Rattle.stops.specs.Stops.{member};
 /// The most stops there can be: n is at most this.
 pub const MOST_STOPS: usize = 60;
 
+/// The depot and the stops together are at most this many.
+pub const MOST_PLACES: usize = MOST_STOPS + 1;
+
 /// A set of stops: bit j of its word stands for stop j. Bit 0 and the bits above n can be
 /// written; a call that takes nothing but stops refuses such a set.
 #[derive(Clone, Copy)]
