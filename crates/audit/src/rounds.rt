@@ -8,7 +8,7 @@ use book::Visit;
 /// Two visits whose windows both open at minute zero.
 pub fn two_visits(capacity: u16) -> Result<Book, OutOfRange> {
     let fleet = Fleet { vans: 2, capacity, battery: 40, most: 4 };
-    let mut book = Book::new(2, fleet).ok_or(OutOfRange)?;
+    let mut book = Book::new(2, fleet)?;
     book.put_visit(1, Visit { opens: 0, closes: 10, load: 2, charger: false })?;
     book.put_visit(2, Visit { opens: 0, closes: 20, load: 3, charger: true })?;
     book.put_leg(0, 1, Leg { cost: 10, minutes: 5 })?;

@@ -1,11 +1,11 @@
 -- What a book holds, and what each call makes of it.
-use mathlib.Core.Bool.{Bool, cond, _&&_}
+use mathlib.Core.Bool.{Bool, cond, not, _&&_}
 use mathlib.Core.List.{List}
 use Prim.Native.Nat.{ℕ, _*_}
 use lib.Dec.{eqb, leb}
 use lib.ListN.{getD, set, replicate}
 use Rattle.stops.specs.Stops.{most-places}
-use Rattle.book.specs.Ranges.{between, visit-fits, leg-fits, blank-visit, blank-leg, apart, leg-index}
+use Rattle.book.specs.Ranges.{between, visit-fits, leg-fits, blank-visit, blank-leg, leg-index}
 use Rattle.book.specs.declared.parts.Fleet.{Fleet}
 use Rattle.book.specs.declared.parts.Visit.{Visit}
 use Rattle.book.specs.declared.parts.Leg.{Leg}
@@ -32,7 +32,7 @@ is-place b j = leb j (b .stops)
 
 -- from a place to a stop other than that place
 abbrev pub can-go : Contents → ℕ → ℕ → Bool
-can-go b i j = is-stop b j && apart (b .stops) i j
+can-go b i j = is-place b i && is-stop b j && not (eqb i j)
 
 -- of a stop of the book
 abbrev pub visit-at : Contents → ℕ → Visit

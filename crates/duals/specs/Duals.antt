@@ -5,6 +5,7 @@ use Prim.Native.Nat.{ℕ, _^_, _≤_}
 use lib.Dec.{eqb, leb}
 use lib.IntN.{ℤ, pos, natAbs}
 use lib.ListN.{getD, set, replicate}
+use Rattle.stops.specs.Stops.{most-places}
 use Rattle.tier.specs.Meaning.{Outcome, taken, refused}
 use Rattle.tier.specs.Refusals.{number}
 use Rattle.tier.specs.Sums.{sum-to}
@@ -14,7 +15,7 @@ use Rattle.tier.specs.declared.refusal.Refusal.the-variants.{NoSuchTier, NotAtT
 abbrev pub most-dual : ℕ
 most-dual = 2 ^ 30
 
--- the dual of stop j stands at j
+-- a table of 61 places, in which the dual of stop j stands at j
 abbrev pub dual-of : List ℤ → ℕ → ℤ
 dual-of duals j = getD duals j (pos 0)
 
@@ -23,7 +24,7 @@ Duals-in-range duals = (j : ℕ) → natAbs (dual-of duals j) ≤ most-dual
 
 -- duals start at 0
 abbrev pub zero-duals : List ℤ
-zero-duals = replicate 61 (pos 0)
+zero-duals = replicate most-places (pos 0)
 
 -- the credit of a bottom over n stops
 abbrev pub sum-of-duals : List ℤ → ℕ → ℤ

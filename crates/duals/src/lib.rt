@@ -11,24 +11,25 @@ ghost use lib.IntN.{pos, _-ℤ_};
 ghost use Rattle.stops.specs.Stops.{most-stops};
 ghost use Rattle.tier.specs.Refusals.{number as «number-of», Did};
 ghost use Rattle.duals.specs.Duals.{dual-of, zero-duals, sum-of-duals, set-dual, tighten-refusal};
+use stops::MOST_PLACES;
 use stops::MOST_STOPS;
 use tier::Refusal;
 
 const MOST_DUAL: i64 = 1 << 30;
 
 impl Duals {
-    /// All duals 0; there are at most 60 stops.
+    /// All duals 0; more than 60 stops count as 60.
     pub fn new(stops: usize) -> Duals
         ensures stops { λ r. ⌜ r .stops ≡ min stops most-stops ⌝ }
         ensures amounts { λ r. ⌜ r .amounts ≡ zero-duals ⌝ }
     {
         Duals {
             stops: stops.min(MOST_STOPS),
-            amounts: [0; 61],
+            amounts: [0; MOST_PLACES],
         }
     }
 
-    /// The dual of a stop; 0 where there is none.
+    /// The dual of a stop; what stands in the table at a number that is no stop, and 0 past it.
     pub fn dual(&self, stop: usize) -> i64
         ensures { λ r. ⌜ r ≡ dual-of (now (self .entry) .amounts) stop ⌝ }
     {

@@ -15,7 +15,7 @@ use tier::replay;
 // Two stops; from the first to the second it is this far, and the second asks for this.
 fn round_with(visit: Visit, minutes: u16) -> Result<Round, OutOfRange> {
     let fleet = Fleet { vans: 1, capacity: 10, battery: 40, most: 4 };
-    let mut book = Book::new(2, fleet).ok_or(OutOfRange)?;
+    let mut book = Book::new(2, fleet)?;
     book.put_visit(1, Visit { opens: 0, closes: 20, load: 2, charger: false })?;
     book.put_visit(2, visit)?;
     book.put_leg(1, 2, Leg { cost: 4, minutes })?;

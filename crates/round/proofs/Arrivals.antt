@@ -6,22 +6,24 @@ use native.Mathlib.Omega.{arith}
 use lib.Dec.{eqb}
 use lib.ListN.{getD}
 use Rattle.std.proofs.shelf.Tests.{ne-eqb}
-use Rattle.book.specs.Ranges.{blank-leg, Legs-in-range}
-use Rattle.book.specs.Books.{Pages, leg-at, leg-index, no-leg}
+use Rattle.stops.specs.Stops.{most-places}
+use Rattle.book.specs.Ranges.{blank-leg, leg-index, Legs-ok}
+use Rattle.book.specs.Books.{Contents, leg-at, no-leg}
 use Rattle.book.specs.declared.parts.Leg.{Leg}
+use Rattle.book.proofs.Fits.{leg-in-range}
 use Rattle.round.specs.Round.{arrival}
 
 -- between different places the leg is the one in the table
-pub leg-between : (p : Pages) (i j : ℕ) → (j ≡ i → ⊥) → leg-at p i j ≡ getD (p .legs) (leg-index i j) blank-leg
-leg-between p i j apart = ap (λ b. cond b no-leg (getD (p .legs) (leg-index i j) blank-leg)) (ne-eqb i j (λ e. apart (omega arith)))
+pub leg-between : (b : Contents) (i j : ℕ) → (j ≡ i → ⊥) → leg-at b i j ≡ getD (b .legs) (leg-index i j) blank-leg
+leg-between b i j apart = ap (λ t. cond t no-leg (getD (b .legs) (leg-index i j) blank-leg)) (ne-eqb i j (λ e. apart (omega arith)))
 
 -- a later departure never arrives earlier
-pub no-overtaking : (p : Pages) (i j t u : ℕ) → t ≤ u → arrival p i j t ≤ arrival p i j u
-no-overtaking p i j t u h = omega arith
+pub no-overtaking : (b : Contents) (i j t u : ℕ) → t ≤ u → arrival b i j t ≤ arrival b i j u
+no-overtaking b i j t u h = omega arith
 
 -- an arrival at another place is later than the departure
-pub arrives-later : (p : Pages) (i j t : ℕ) → Legs-in-range (p .legs) → (j ≡ i → ⊥) → t < arrival p i j t
-arrives-later p i j t legs apart =
-    let e = ap (λ (l : Leg). l .minutes) (leg-between p i j apart) in
-    let m = legs (leg-index i j) .1 in
+pub arrives-later : (b : Contents) (i j t : ℕ) → Legs-ok (b .stops) (b .legs) → j < most-places → (j ≡ i → ⊥) → t < arrival b i j t
+arrives-later b i j t legs inside apart =
+    let e = ap (λ (l : Leg). l .minutes) (leg-between b i j apart) in
+    let m = leg-in-range (b .stops) i j (getD (b .legs) (leg-index i j) blank-leg) inside (legs i j) .some in
     omega arith

@@ -6,6 +6,7 @@ use Prim.Native.Nat.{ℕ, _+_, _*_, _^_, _<_, _≤_, max}
 use native.Mathlib.Omega.{arith}
 use lib.Dec.{leb}
 use lib.IntN.{ℤ, pos, natAbs, _+ℤ_}
+use lib.ListN.{getD}
 use lib.Signed.{_≤ℤ_}
 use Rattle.std.proofs.shelf.Signed.{ints}
 use Rattle.std.proofs.shelf.Tests.{leb-true, le-leb}
@@ -14,24 +15,25 @@ use Rattle.std.specs.declared.option.Option.{Option}
 use Rattle.std.specs.declared.option.Option.the-variants.{None, Some}
 use Rattle.std.specs.declared.result.Result.{Result}
 use Rattle.std.specs.declared.result.Result.the-variants.{Ok, Err}
-use Rattle.stops.specs.Stops.{Stop, most-stops}
+use Rattle.stops.specs.Stops.{Stop, most-stops, most-places}
 use Rattle.tier.specs.Answers.{Standing, at-depot, reached}
 use Rattle.tier.specs.Laws.{Is-leg, Interface, Gap-laws, Key-laws, Reaches-within}
 use Rattle.tier.proofs.Options.{none-some, some-same}
-use Rattle.book.specs.Ranges.{Windows, Legs-in-range, blank-visit}
-use Rattle.book.specs.Books.{Pages, is-stop, visit-at, leg-at, leg-index}
+use Rattle.book.specs.Ranges.{Visits-ok, Legs-ok, blank-visit, blank-leg, leg-index}
+use Rattle.book.specs.Books.{Contents, is-stop, can-go, visit-at, leg-at}
 use Rattle.book.specs.declared.parts.Leg.{Leg}
-use Rattle.duals.specs.Bottoms.{Drive, plain, Drive-laws}
+use Rattle.book.proofs.Fits.{closes-in-day, leg-in-range}
+use Rattle.duals.specs.Bottoms.{Base, costing, plain, Base-laws}
 use Rattle.duals.proofs.Plans.{plain-was, plain-is}
 use Rattle.round.specs.declared.state.RoundState.{RoundState}
 use Rattle.round.specs.declared.state.Barred.{Barred}
 use Rattle.round.specs.declared.state.Barred.the-variants.{NoLeg, TooLate, TooHeavy}
-use Rattle.round.specs.Round.{arrival, loaded, is-leg, state, drives, costing, goes-home, round-gap, round-drive}
+use Rattle.round.specs.Round.{arrival, loaded, state, drives, goes-home, round-gap, round-base}
 use Rattle.round.proofs.Arrivals.{leg-between, no-overtaking, arrives-later}
 
 -- WHAT IT SAYS THAT A LEG IS DRIVEN
 
-record Driven (p : Pages) (s : RoundState) (i j : ℕ) (t : RoundState) : Type 0 where
+record Driven (p : Contents) (s : RoundState) (i j : ℕ) (t : RoundState) : Type 0 where
   leg : Is-leg (p .stops) i j
   in-time : arrival p i j (s .minute) ≤ visit-at p j .closes
   room : loaded p j (s .load) ≤ p .fleet .capacity
@@ -44,16 +46,16 @@ ok-same e = cc
 err-ok : {E S : Type 0} {x : E} {t : S} → _≡_ {A = Result S E} (Err x) (Ok t) → ⊥
 err-ok e = let z : _≡_ {A = ℕ} 0 1 = cc in omega arith
 
-leg-of : (p : Pages) (i j : ℕ) → is-leg p i j ≡ true → Is-leg (p .stops) i j
+leg-of : (p : Contents) (i j : ℕ) → can-go p i j ≡ true → Is-leg (p .stops) i j
 leg-of p i j e = record { apart = grind (arith, tells); to = (grind (arith, tells), grind (arith, tells)); from = grind (arith, tells) }
 
-of-leg : (p : Pages) (i j : ℕ) → Is-leg (p .stops) i j → is-leg p i j ≡ true
+of-leg : (p : Contents) (i j : ℕ) → Is-leg (p .stops) i j → can-go p i j ≡ true
 of-leg p i j l = let a = l .apart in let b = l .to .0 in let c = l .to .1 in let d = l .from in grind (arith, tells)
 
-driven : (p : Pages) (s : RoundState) (i j : ℕ) (t : RoundState) → drives p s i j ≡ Ok t → Driven p s i j t
-driven p s i j t e = by (is-leg p i j) (leb (arrival p i j (s .minute)) (visit-at p j .closes)) (leb (loaded p j (s .load)) (p .fleet .capacity)) refl refl refl e
+driven : (p : Contents) (s : RoundState) (i j : ℕ) (t : RoundState) → drives p s i j ≡ Ok t → Driven p s i j t
+driven p s i j t e = by (can-go p i j) (leb (arrival p i j (s .minute)) (visit-at p j .closes)) (leb (loaded p j (s .load)) (p .fleet .capacity)) refl refl refl e
   where
-    by : (a b c : Bool) → is-leg p i j ≡ a → leb (arrival p i j (s .minute)) (visit-at p j .closes) ≡ b → leb (loaded p j (s .load)) (p .fleet .capacity) ≡ c → cond {A = Result RoundState Barred} a (cond b (cond c (Ok (state (arrival p i j (s .minute)) (loaded p j (s .load)))) (Err (TooHeavy (loaded p j (s .load)) (p .fleet .capacity)))) (Err (TooLate (arrival p i j (s .minute)) (visit-at p j .closes)))) (Err NoLeg) ≡ Ok t → Driven p s i j t
+    by : (a b c : Bool) → can-go p i j ≡ a → leb (arrival p i j (s .minute)) (visit-at p j .closes) ≡ b → leb (loaded p j (s .load)) (p .fleet .capacity) ≡ c → cond {A = Result RoundState Barred} a (cond b (cond c (Ok (state (arrival p i j (s .minute)) (loaded p j (s .load)))) (Err (TooHeavy (loaded p j (s .load)) (p .fleet .capacity)))) (Err (TooLate (arrival p i j (s .minute)) (visit-at p j .closes)))) (Err NoLeg) ≡ Ok t → Driven p s i j t
     by false b c f g h e = absurd (err-ok e)
     by true false c f g h e = absurd (err-ok e)
     by true true false f g h e = absurd (err-ok e)
@@ -68,7 +70,7 @@ driven p s i j t e = by (is-leg p i j) (leb (arrival p i j (s .minute)) (visit-a
         }
 
 -- the other way
-drive-on : (p : Pages) (s : RoundState) (i j : ℕ) → Is-leg (p .stops) i j → arrival p i j (s .minute) ≤ visit-at p j .closes → loaded p j (s .load) ≤ p .fleet .capacity → drives p s i j ≡ Ok (state (arrival p i j (s .minute)) (loaded p j (s .load)))
+drive-on : (p : Contents) (s : RoundState) (i j : ℕ) → Is-leg (p .stops) i j → arrival p i j (s .minute) ≤ visit-at p j .closes → loaded p j (s .load) ≤ p .fleet .capacity → drives p s i j ≡ Ok (state (arrival p i j (s .minute)) (loaded p j (s .load)))
 drive-on p s i j l h r =
     let x = of-leg p i j l in
     let y = le-leb _ _ h in
@@ -84,6 +86,14 @@ costs {E} {S} c (Ok s) t x e =
     let q = some-same e in
     record { was = ap Ok (ap (λ (r : S × ℤ). r .0) q); cost = sym (ap (λ (r : S × ℤ). r .1) q) }
 costs c (Err f) t x e = absurd (none-some e)
+
+-- what it says that a stop has a way home
+home : (p : Contents) (i : ℕ) (x : ℤ) → goes-home p i ≡ Some x → Stop (p .stops) i × (x ≡ pos (leg-at p i 0 .cost))
+home p i x e = by (is-stop p i) refl e
+  where
+    by : (b : Bool) → is-stop p i ≡ b → cond {A = Option ℤ} b (Some (pos (leg-at p i 0 .cost))) None ≡ Some x → Stop (p .stops) i × (x ≡ pos (leg-at p i 0 .cost))
+    by true f e = ((grind (arith, tells), grind (arith, tells)), sym (some-same e))
+    by false f e = absurd (none-some e)
 
 -- WHAT IT SAYS THAT THERE IS A GAP
 
@@ -105,38 +115,31 @@ no-gap a b m l = grind (arith, tells)
 -- THE LAWS
 
 -- what a book keeps of its numbers, as far as Round needs it
-pub record In-ranges (p : Pages) : Type 0 where
+pub record In-ranges (p : Contents) : Type 0 where
   pub few : p .stops ≤ most-stops
-  pub windows : Windows (p .visits)
-  pub legs : Legs-in-range (p .legs)
+  pub visits : Visits-ok (p .stops) (p .visits)
+  pub legs : Legs-ok (p .stops) (p .legs)
 
-module _ (p : Pages) (ok : In-ranges p) where
-  abbrev d : Drive RoundState
-  d = round-drive p
+module _ (p : Contents) (ok : In-ranges p) where
+  abbrev base : Base RoundState
+  base = round-base p
 
   -- one reach, as the answers with duals 0 have it
-  reach-driven : (s t : RoundState) (i j : ℕ) (x : ℤ) → plain d .reach s i j ≡ Some (t, x) → Driven p s i j t
-  reach-driven s t i j x e = driven p s i j t (costs (leg-at p i j .cost) (drives p s i j) t x (plain-was (d .reach s i j) t x e) .was)
+  reach-driven : (s t : RoundState) (i j : ℕ) (x : ℤ) → plain base .reach s i j ≡ Some (t, x) → Driven p s i j t
+  reach-driven s t i j x e = driven p s i j t (costs (leg-at p i j .cost) (drives p s i j) t x (plain-was (base .reach s i j) t x e) .was)
 
-  home : (i : ℕ) (x : ℤ) → goes-home p i ≡ Some x → Stop (p .stops) i × (x ≡ pos (leg-at p i 0 .cost))
-  home i x e = by (is-stop p i) refl e
-    where
-      by : (b : Bool) → is-stop p i ≡ b → cond {A = Option ℤ} b (Some (pos (leg-at p i 0 .cost))) None ≡ Some x → Stop (p .stops) i × (x ≡ pos (leg-at p i 0 .cost))
-      by true f e = ((grind (arith, tells), grind (arith, tells)), sym (some-same e))
-      by false f e = absurd (none-some e)
-
-  interface : Interface (plain d)
+  interface : Interface (plain base)
   interface = record {
     reach-is-leg = λ s t i j x e. reach-driven s t i j x e .leg;
-    finish-from-stop = λ s i x e. home i x e .0;
+    finish-from-stop = λ s i x e. home p i x e .0;
     shut-over-four = λ deep. absurd (omega arith);
   }
 
   -- where b goes, a goes too: it arrives no later and carries no more
-  follows : (i j : ℕ) (a b t : RoundState) (g : ℕ) (y : ℤ) → round-gap a b ≡ Some g → plain d .reach b i j ≡ Some (t, y) → Reaches-within (plain d) i j a t (y +ℤ pos g)
+  follows : (i j : ℕ) (a b t : RoundState) (g : ℕ) (y : ℤ) → round-gap a b ≡ Some g → plain base .reach b i j ≡ Some (t, y) → Reaches-within (plain base) i j a t (y +ℤ pos g)
   follows i j a b t g y e f =
       let h = ahead a b g e in
-      let o = plain-was (d .reach b i j) t y f in
+      let o = plain-was (base .reach b i j) t y f in
       let k = costs (leg-at p i j .cost) (drives p b i j) t y o in
       let v = driven p b i j t (k .was) in
       let next = state (arrival p i j (a .minute)) (loaded p j (a .load)) in
@@ -152,13 +155,13 @@ module _ (p : Pages) (ok : In-ranges p) where
       record {
         next = next;
         charge = pos (leg-at p i j .cost);
-        reaches = plain-is (d .reach a i j) next (pos (leg-at p i j .cost)) goes;
+        reaches = plain-is (base .reach a i j) next (pos (leg-at p i j .cost)) goes;
         width = 0;
         present = no-gap next t (omega arith) (omega arith);
         small = omega (arith, ints);
       }
 
-  gaps : Gap-laws (plain d)
+  gaps : Gap-laws (plain base)
   gaps = record {
     gap-to-itself = λ i a st r. no-gap a a (omega arith) (omega arith);
     gap-through = λ i a b c g h st x y z e f.
@@ -169,36 +172,40 @@ module _ (p : Pages) (ok : In-ranges p) where
     finish-follows = λ i a b g y st x z e f. record { charge = y; finishes = f; small = omega (arith, ints) };
   }
 
-  in-range : (i : ℕ) (s : RoundState) → Standing (plain d) i s → s .minute ≤ 1440
+  -- a place of the book is one of the table's
+  in-table : (j : ℕ) → j ≤ p .stops → j < most-places
+  in-table j h = let few = ok .few in omega arith
+
+  in-range : (i : ℕ) (s : RoundState) → Standing (plain base) i s → s .minute ≤ 1440
   in-range i s at-depot = omega arith
   in-range i s (reached {i = h} {s = r} j t x st e) =
       let v = reach-driven r t h j x e in
-      let c = ok .windows j .1 in
+      let c = closes-in-day (p .stops) j (visit-at p j) (ok .visits j) in
       let a = v .in-time in
       let b = v .minute in
       omega arith
 
-  keys : Key-laws (plain d)
+  keys : Key-laws (plain base)
   keys = record {
     start-at-zero = refl;
     key-in-range = in-range;
     reach-raises-key = λ i j s t x st e.
         let v = reach-driven s t i j x e in
-        let l = arrives-later p i j (s .minute) (ok .legs) (v .leg .apart) in
+        let l = arrives-later p i j (s .minute) (ok .legs) (in-table j (v .leg .to .1)) (v .leg .apart) in
         let m = v .minute in
         omega arith;
     gap-orders-keys = λ i a b g st x y e. ahead a b g e .minute;
   }
 
   -- a leg's cost
-  leg-cost : (i j : ℕ) → (j ≡ i → ⊥) → leg-at p i j .cost ≤ 2 ^ 30
-  leg-cost i j apart =
+  leg-cost : (i j : ℕ) → j ≤ p .stops → (j ≡ i → ⊥) → leg-at p i j .cost ≤ 2 ^ 30
+  leg-cost i j to apart =
       let e = ap (λ (l : Leg). l .cost) (leg-between p i j apart) in
-      let c = ok .legs (leg-index i j) .0 in
+      let c = leg-in-range (p .stops) i j (getD (p .legs) (leg-index i j) blank-leg) (in-table j to) (ok .legs i j) .cost in
       omega arith
 
-  pub round-drive-laws : Drive-laws d
-  round-drive-laws = record {
+  pub round-base-laws : Base-laws base
+  round-base-laws = record {
     interface = interface;
     gaps = gaps;
     keys = keys;
@@ -206,13 +213,13 @@ module _ (p : Pages) (ok : In-ranges p) where
     reach-small = λ i j s t x st e.
         let k = costs (leg-at p i j .cost) (drives p s i j) t x e in
         let v = driven p s i j t (k .was) in
-        let c = leg-cost i j (v .leg .apart) in
+        let c = leg-cost i j (v .leg .to .1) (v .leg .apart) in
         let y = k .cost in
         omega (arith, ints);
     finish-small = λ i s x st e.
-        let h = home i x e in
+        let h = home p i x e in
         let from = h .0 .0 in
-        let c = leg-cost i 0 (λ z. omega arith) in
+        let c = leg-cost i 0 (omega arith) (λ z. omega arith) in
         let y = h .1 in
         omega (arith, ints);
     gap-small = λ i a b g st x y e. let h = ahead a b g e .none in omega arith;

@@ -7,7 +7,7 @@ pub use state::Barred;
 pub use state::RoundState;
 ghost use mathlib.Core.Path.{_≡_};
 ghost use Prim.Native.Nat.{_+_, max};
-ghost use Rattle.book.specs.Books.{pages};
+ghost use Rattle.book.specs.Books.{contents};
 ghost use Rattle.duals.specs.Duals.{zero-duals};
 ghost use Rattle.duals.specs.Bottoms.{bottom-at};
 ghost use Rattle.round.specs.Round.{arrive, drives, round as «round-meaning»};
@@ -30,8 +30,7 @@ fn arrives(visit: Visit, leg: Leg, minute: u16) -> u32
 impl Round {
     /// Round over a book, with all duals 0.
     pub fn new(book: Book) -> Round
-        ensures book { λ r. ⌜ pages (r .book) ≡ pages book ⌝ }
-        ensures duals { λ r. ⌜ r .duals .amounts ≡ zero-duals ⌝ }
+        ensures { λ r. ⌜ bottom-at (contents (r .book)) (r .duals .amounts) ≡ bottom-at (contents book) zero-duals ⌝ }
     {
         let duals = Duals::new(book.stops());
         Round { book, duals }
@@ -39,7 +38,7 @@ impl Round {
 
     /// The state after a leg, or why it is barred.
     pub fn drive(&self, state: RoundState, from: usize, to: usize) -> Result<RoundState, Barred>
-        ensures { λ r. ⌜ r ≡ drives (pages (now (self .entry) .book)) state from to ⌝ }
+        ensures { λ r. ⌜ r ≡ drives (contents (now (self .entry) .book)) state from to ⌝ }
     {
         if from == to {
             return Err(Barred::NoLeg);
@@ -71,7 +70,7 @@ pub impl Tier for Round as RoundTier {
 
     ghost meaning = { «round-meaning» };
 
-    ghost value = { λ t. bottom-at (pages (t .book)) (t .duals .amounts) };
+    ghost value = { λ t. bottom-at (contents (t .book)) (t .duals .amounts) };
 
     fn stops(&self) -> usize {
         self.book.stops()

@@ -1,4 +1,4 @@
-//! Where a van stands along a round.
+//! Where a van stands along a route.
 
 /// The minute and the load with which a van stands at a place.
 #[derive(Clone, Copy)]
@@ -10,7 +10,7 @@ pub struct RoundState {
 /// Why a leg is barred.
 #[derive(Clone, Copy)]
 pub enum Barred {
-    /// it does not go from a place to another that is a stop
+    /// there is no such leg: `from` is no place, `to` is no stop, or they are the same
     NoLeg,
     /// the minute of arrival, and when the window closes
     TooLate(u32, u16),
