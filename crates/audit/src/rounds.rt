@@ -6,7 +6,7 @@ use book::OutOfRange;
 use book::Visit;
 
 /// Two visits whose windows both open at minute zero.
-pub fn two_visits(capacity: u16) -> Result<Book, OutOfRange> {
+pub(crate) fn two_visits(capacity: u16) -> Result<Book, OutOfRange> {
     let fleet = Fleet { vans: 2, capacity, battery: 40, most: 4 };
     let mut book = Book::new(2, fleet)?;
     book.put_visit(1, Visit { opens: 0, closes: 10, load: 2, charger: false })?;
@@ -21,7 +21,7 @@ pub fn two_visits(capacity: u16) -> Result<Book, OutOfRange> {
 }
 
 /// The same, but the first stop closes at minute 8.
-pub fn early_close() -> Result<Book, OutOfRange> {
+pub(crate) fn early_close() -> Result<Book, OutOfRange> {
     let mut book = two_visits(10)?;
     book.put_visit(1, Visit { opens: 0, closes: 8, load: 2, charger: false })?;
     Ok(book)

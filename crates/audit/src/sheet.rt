@@ -10,14 +10,14 @@ use tier::replay;
 
 /// Which of two routes is the cheapest.
 #[derive(Clone, Copy)]
-pub enum Cheapest {
+pub(crate) enum Cheapest {
     First,
     Second,
     Neither,
 }
 
 /// By their reduced costs, `None` where a route is not admitted; the first on ties.
-pub fn cheaper_of(first: Option<i64>, second: Option<i64>) -> Cheapest
+pub(crate) fn cheaper_of(first: Option<i64>, second: Option<i64>) -> Cheapest
     ensures { λ r. ⌜ r ≡ cheapest-of first second ⌝ }
 {
     match (first, second) {
@@ -71,7 +71,7 @@ fn print_legs(rt: &LibcRuntime, round: &Round, route: &[usize]) -> io::Result<()
 }
 
 /// Prints the work sheet of a route, and answers its reduced cost if it is admitted.
-pub fn print_sheet(rt: &LibcRuntime, round: &Round, route: &[usize]) -> io::Result<Option<i64>> {
+pub(crate) fn print_sheet(rt: &LibcRuntime, round: &Round, route: &[usize]) -> io::Result<Option<i64>> {
     print!(rt, "  route")?;
     for stop in route {
         print!(rt, " {stop}")?;

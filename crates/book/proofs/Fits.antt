@@ -8,13 +8,13 @@ use native.Mathlib.Omega.{arith}
 use lib.Dec.{eqb, leb, ltb}
 use lib.ListN.{getD, set, replicate}
 use lib.Seq.{getD-set-other}
-use Rattle.std.proofs.shelf.Tests.{cases-eq, cases-lt, leb-true, le-leb, eqb-true, ne-eqb, true≢false}
+use Rattle.std.proofs.shelf.Tests.{cases-eq, cases-lt, leb-true, le-leb, eqb-true, ne-eqb, true≢false, and-parts}
 use Rattle.std.proofs.shelf.Ways.{tells}
 use Rattle.stops.specs.Stops.{Stop, most-stops, most-places}
 use Rattle.stops.proofs.Lists.{each-set, each-copy, getD-set-at}
 use Rattle.book.specs.Limits.{most-load, last-minute, most-minutes, most-cost}
 use Rattle.book.specs.Ranges.{between, fleet-fits, fleet-ok, visit-fits, visit-ok, leg-fits, leg-ok, blank-visit, blank-leg, apart, leg-index, Visits-ok, Legs-ok}
-use Rattle.book.specs.Books.{Contents, can-put-leg}
+use Rattle.book.specs.Books.{Contents, can-put-visit, can-put-leg}
 use Rattle.book.specs.declared.parts.Fleet.{Fleet}
 use Rattle.book.specs.declared.parts.Visit.{Visit}
 use Rattle.book.specs.declared.parts.Leg.{Leg}
@@ -99,7 +99,18 @@ legs-put stops legs i j l few a e h f t =
         (subst (λ n. leg-ok stops i n (getD (set legs (leg-index i j) l) (leg-index i n) blank-leg) ≡ true) (sym columns)
         (getD-set-at (λ x. leg-ok stops i j x ≡ true) legs (leg-index i j) l blank-leg here (h i j)))
 
--- WHICH LEGS CAN BE PUT
+-- WHICH VISITS AND LEGS CAN BE PUT
+
+pub record Taken-visit (b : Contents) (j : ℕ) (v : Visit) : Type 0 where
+  pub stop : Stop (b .stops) j
+  pub fits : visit-fits v ≡ true
+
+pub taken-visit : (b : Contents) (j : ℕ) (v : Visit) → true ≡ can-put-visit b j v → Taken-visit b j v
+taken-visit b j v e =
+    let p = and-parts (between 1 (b .stops) j) (visit-fits v) (sym e) in
+    let q = and-parts (leb 1 j) (leb j (b .stops)) (p .0) in
+    record { stop = (leb-true _ _ (q .0), leb-true _ _ (q .1)); fits = p .1 }
+
 
 pub takes-outside : (b : Contents) (i j : ℕ) (l : Leg) → (b .stops < i) ⊎ (b .stops < j) → false ≡ can-put-leg b i j l
 takes-outside b i j l o = sym (by (leb i (b .stops)) (leb j (b .stops)) refl refl)

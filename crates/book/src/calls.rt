@@ -3,7 +3,7 @@ ghost use mathlib.Core.Bool.{false, true, cond};
 ghost use mathlib.Core.Path.{_≡_};
 ghost use Rattle.std.specs.Results.{Cases, isOk};
 ghost use Rattle.std.specs.declared.option.Option.the-variants.{None, Some};
-ghost use Rattle.book.specs.Ranges.{fleet-fits, visit-fits, leg-fits};
+ghost use Rattle.book.specs.Ranges.{fleet-ok, fleet-fits, visit-fits, leg-fits};
 ghost use Rattle.book.specs.Books.{contents, is-stop, is-place, visit-at, leg-at, opened, empty-book, can-put-visit, with-visit, can-put-leg, with-leg};
 use super::book::Book;
 use super::limits::LAST_MINUTE;
@@ -53,17 +53,31 @@ fn fits_leg(leg: Leg) -> bool
     leg.cost <= MOST_COST && 1 <= leg.minutes && leg.minutes <= MOST_MINUTES
 }
 
+fn answer(taken: bool) -> Result<(), OutOfRange>
+    ensures { λ r. ⌜ isOk r ≡ taken ⌝ }
+{
+    if taken { Ok(()) } else { Err(OutOfRange) }
+}
+
+// A book of which nothing is said but its first line.
+fn unsaid(stops: usize, fleet: Fleet) -> Book
+    requires { ⌜ fleet-ok stops fleet ≡ true ⌝ }
+    ensures { λ r. ⌜ contents r ≡ opened stops fleet ⌝ }
+{
+    Book {
+        stops,
+        fleet,
+        visits: [BLANK_VISIT; MOST_PLACES],
+        legs: [BLANK_LEG; TABLE_LENGTH],
+    }
+}
+
 impl Book {
     /// The book without stops.
     pub fn empty() -> Book
         ensures { λ r. ⌜ contents r ≡ empty-book ⌝ }
     {
-        Book {
-            stops: 0,
-            fleet: Fleet { vans: 0, capacity: 0, battery: 0, most: 0 },
-            visits: [BLANK_VISIT; MOST_PLACES],
-            legs: [BLANK_LEG; TABLE_LENGTH],
-        }
+        unsaid(0, Fleet { vans: 0, capacity: 0, battery: 0, most: 0 })
     }
 
     /// A book of this many stops, of which nothing is said yet: until a visit or a leg is put, the
@@ -74,12 +88,7 @@ impl Book {
         if !fits_fleet(stops, fleet) {
             return Err(OutOfRange);
         }
-        Ok(Book {
-            stops,
-            fleet,
-            visits: [BLANK_VISIT; MOST_PLACES],
-            legs: [BLANK_LEG; TABLE_LENGTH],
-        })
+        Ok(unsaid(stops, fleet))
     }
 
     pub fn stops(&self) -> usize
@@ -94,7 +103,7 @@ impl Book {
         self.fleet
     }
 
-    /// What the stop asks for, if it is one of the book's.
+    /// The visit of a stop, if it is one of the book's.
     pub fn visit(&self, stop: usize) -> Option<Visit>
         ensures { λ r. ⌜ r ≡ cond (is-stop (contents (now (self .entry))) stop) (Some (visit-at (contents (now (self .entry))) stop)) None ⌝ }
     {
@@ -117,16 +126,16 @@ impl Book {
         Some(self.legs[from * MOST_PLACES + to])
     }
 
-    /// Says what a stop asks for; a refusal leaves the book as it was.
+    /// Says what the visit of a stop is; a refusal leaves the book as it was.
     pub fn put_visit(&mut self, stop: usize, visit: Visit) -> Result<(), OutOfRange>
         ensures answer { λ r. ⌜ isOk r ≡ can-put-visit (contents (now (self .entry))) stop visit ⌝ }
         ensures book { λ r. ⌜ contents (now (self .exit)) ≡ cond (can-put-visit (contents (now (self .entry))) stop visit) (with-visit (contents (now (self .entry))) stop visit) (contents (now (self .entry))) ⌝ }
     {
-        if stop < 1 || stop > self.stops || !fits_visit(visit) {
-            return Err(OutOfRange);
+        let visited = self.takes_visit(stop, visit);
+        if visited {
+            self.visits[stop] = visit;
         }
-        self.visits[stop] = visit;
-        Ok(())
+        answer(visited)
     }
 
     /// Says what a leg costs and takes; from a place to itself only (0, 0) is taken. A refusal
@@ -135,13 +144,18 @@ impl Book {
         ensures answer { λ r. ⌜ isOk r ≡ can-put-leg (contents (now (self .entry))) from to leg ⌝ }
         ensures book { λ r. ⌜ contents (now (self .exit)) ≡ cond (can-put-leg (contents (now (self .entry))) from to leg) (with-leg (contents (now (self .entry))) from to leg) (contents (now (self .entry))) ⌝ }
     {
-        if !self.takes_leg(from, to, leg) {
-            return Err(OutOfRange);
-        }
-        if from != to {
+        let driven = self.takes_leg(from, to, leg);
+        if driven && from != to {
             self.legs[from * MOST_PLACES + to] = leg;
         }
-        Ok(())
+        answer(driven)
+    }
+
+    // Whether the visit can be put: of a stop of the book, in its ranges.
+    fn takes_visit(&self, stop: usize, visit: Visit) -> bool
+        ensures { λ r. ⌜ r ≡ can-put-visit (contents (now (self .entry))) stop visit ⌝ }
+    {
+        1 <= stop && stop <= self.stops && fits_visit(visit)
     }
 
     // Whether the leg can be put: between places of the book, in its ranges.

@@ -3,3 +3,5 @@ pub mod Outcomes
 pub mod Walks
 pub mod InStep
 pub mod Counts
+pub mod Shut
+pub mod Layers

@@ -38,14 +38,8 @@ module _ {S : Type 0} (m : Answers S) where
       next-stop r k s i cost h e ∙ ap (λ o. plus cost (and-then o (λ p. plus (p .1) (replay-from m (p .0) (getD r k 0) (drop (k + 1) r))))) f
 
   -- all stops are behind
-  all-behind : (r : List ℕ) (k : ℕ) (s : S) (i : ℕ) (cost : ℤ) → length r ≤ k → Left r k s i cost → reduced-cost m r ≡ plus cost (m .finish s i)
+  pub all-behind : (r : List ℕ) (k : ℕ) (s : S) (i : ℕ) (cost : ℤ) → length r ≤ k → Left r k s i cost → reduced-cost m r ≡ plus cost (m .finish s i)
   all-behind r k s i cost h e = e ∙ ap (λ js. plus cost (replay-from m s i js)) (drop-all k r h)
-
-  pub goes-home : (r : List ℕ) (k : ℕ) (s : S) (i : ℕ) (cost y sum : ℤ) → length r ≤ k → Left r k s i cost → m .finish s i ≡ Some y → sum ≡ cost +ℤ y → Some sum ≡ reduced-cost m r
-  goes-home r k s i cost y sum h e f z = ap Some z ∙ sym (all-behind r k s i cost h e ∙ ap (plus cost) f)
-
-  pub barred-home : (r : List ℕ) (k : ℕ) (s : S) (i : ℕ) (cost : ℤ) → length r ≤ k → Left r k s i cost → m .finish s i ≡ None → reduced-cost m r ≡ None
-  barred-home r k s i cost h e f = all-behind r k s i cost h e ∙ ap (plus cost) f
 
   -- what is reached or finished stands on at most four tiers, so its charge is small
   pub reach-bound : Interface m → Size-laws m → (i j : ℕ) (s t : S) (x : ℤ) → Standing m i s → m .reach s i j ≡ Some (t, x) → natAbs x ≤ 2 ^ 38

@@ -1,7 +1,9 @@
 pub mod Answers
 pub mod Routes
+pub mod Replays
 pub mod Plans
 pub mod Sums
 pub mod Meaning
 pub mod Refusals
 pub mod Laws
+pub mod Layers

@@ -2,9 +2,12 @@
 //!
 //! A tier is a resource model along a route. A bottom stands by itself; a layer stands on a tier
 //! and adds to its states; a pile is a bottom under layers.
+mod height;
 mod refusal;
 mod replays;
 
+pub use height::MOST_TIERS;
+pub use height::height_over;
 pub use refusal::Refusal;
 pub use replays::replay;
 ghost use mathlib.Core.Path.{_≡_};

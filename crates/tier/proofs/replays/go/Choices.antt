@@ -4,7 +4,7 @@ use lib.IntN.{natAbs}
 use lib.ListN.{drop, length}
 use Rattle.tier.specs.Answers.{Answers, Standing}
 use Rattle.tier.specs.Routes.{plus, replay-from, reduced-cost}
-use Rattle.tier.proofs.replays.replay.Given as given
+use Rattle.tier.proofs.replays.go.Given as given
 
 -- what is left of the route costs what the whole does, less the cost so far
 abbrev pub Inv-loop-to : given.InvT-loop-to

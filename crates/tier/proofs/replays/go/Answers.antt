@@ -7,12 +7,13 @@ use Rattle.std.proofs.shelf.Signed.{ints}
 use Rattle.std.specs.declared.option.Option.the-variants.{Some}
 use Rattle.tier.specs.Answers.{Answers, Standing, at-depot, reached}
 use Rattle.tier.specs.Meaning.{here}
+use Rattle.tier.specs.Replays.{Went}
 use Rattle.tier.specs.Laws.{Laws}
 use Rattle.tier.proofs.Options.{plus-zero}
-use Rattle.tier.proofs.Walks.{goes-on, barred-here, goes-home, barred-home, reach-bound, finish-bound}
-use Rattle.tier.proofs.replays.replay.Given as given
-use Rattle.tier.proofs.replays.replay.Needs as need
-use Rattle.tier.proofs.replays.replay.Needs.{In-Continue-next, In-Continue-home}
+use Rattle.tier.proofs.Walks.{goes-on, barred-here, all-behind, reach-bound}
+use Rattle.tier.proofs.replays.go.Given as given
+use Rattle.tier.proofs.replays.go.Needs as need
+use Rattle.tier.proofs.replays.go.Needs.{In-Continue-next}
 
 abbrev laws-of : (g : given.Over) (t : g .T .Denot) → Laws (g .T·Tier .meaning) (g .T·Tier .value t)
 laws-of g t = g .T·Tier·met .lawful t (g .T·Tier .value t) here
@@ -26,7 +27,7 @@ loop-to-holds g c =
 pub returns-in-Break-next : need.returns-in-Break-next
 returns-in-Break-next g c =
     let m = g .T·Tier .meaning .answers (g .T·Tier .value (c .args .tier .now)) in
-    c .from-residual .ensures ∙ sym (barred-here m _ _ _ _ _ (c .loop-to-test .taken) (c .loop-to .inv .0) (sym (c .reach .ensures) ∙ c .in-Break-next .was tt))
+    subst (Went m (c .args .route .now)) (sym (c .from-residual .ensures)) (barred-here m _ _ _ _ _ (c .loop-to-test .taken) (c .loop-to .inv .0) (sym (c .reach .ensures) ∙ c .in-Break-next .was tt))
 
 -- one stop further: the key has risen and stays within the day, and the charge is small
 record Moved (g : given.Over) (c : In-Continue-next g) : Type 0 where
@@ -60,30 +61,15 @@ loop-to-again g c =
     let b = c .loop-to .inv .2 in
     (goes-on m _ _ _ _ _ _ _ _ (c .loop-to-test .taken) (c .loop-to .inv .0) (k .reaches) (omega (arith, ints)), k .stands, omega (arith, ints))
 
-pub returns-in-Break-home : need.returns-in-Break-home
-returns-in-Break-home g c =
-    let m = g .T·Tier .meaning .answers (g .T·Tier .value (c .args .tier .now)) in
-    c .from-residual-in-Break-home .ensures ∙ sym (barred-home m _ _ _ _ _ (c .loop-to-test .left) (c .loop-to .inv .0) (sym (c .finish .ensures) ∙ c .in-Break-home .was tt))
-
-home-small : (g : given.Over) (c : In-Continue-home g) → natAbs (c .in-Continue-home .home) ≤ 2 ^ 38
-home-small g c =
-    let m = g .T·Tier .meaning .answers (g .T·Tier .value (c .args .tier .now)) in
-    let l = laws-of g (c .args .tier .now) in
-    finish-bound m (l .interface) (l .sizes) _ _ _ (c .loop-to .inv .1) (sym (c .finish .ensures) ∙ c .in-Continue-home .was tt)
-
-pub add-result : need.add-result
-add-result g c =
-    let l = laws-of g (c .args .tier .now) in
-    let h = home-small g (need.at·add-result g c .In-Continue-home) in
-    let d = l .keys .key-in-range _ _ (c .loop-to .inv .1) in
-    let b = c .loop-to .inv .2 in
-    omega (arith, ints)
-
 pub returns : need.returns
 returns g c =
     let m = g .T·Tier .meaning .answers (g .T·Tier .value (c .args .tier .now)) in
     let l = laws-of g (c .args .tier .now) in
-    let h = home-small g (need.at·returns g c .In-Continue-home) in
-    let d = l .keys .key-in-range _ _ (c .loop-to .inv .1) in
+    let stands = c .loop-to .inv .1 in
+    let d = l .keys .key-in-range _ _ stands in
     let b = c .loop-to .inv .2 in
-    goes-home m _ _ _ _ _ _ _ (c .loop-to-test .left) (c .loop-to .inv .0) (sym (c .finish .ensures) ∙ c .in-Continue-home .was tt) (omega (arith, ints))
+    record {
+      stands = stands;
+      small = omega (arith, ints);
+      left = all-behind m _ _ _ _ _ (c .loop-to-test .left) (c .loop-to .inv .0);
+    }
