@@ -1,0 +1,9 @@
+pub mod InWord
+pub mod Parts
+pub mod Fits
+pub mod Replays
+pub mod Costs
+pub mod Gaps
+pub mod SizesAndKeys
+pub mod Calls
+pub mod Lawful
