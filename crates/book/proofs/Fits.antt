@@ -12,7 +12,7 @@ use Rattle.std.proofs.shelf.Tests.{cases-eq, cases-lt, leb-true, le-leb, eqb-tr
 use Rattle.std.proofs.shelf.Ways.{tells}
 use Rattle.stops.specs.Stops.{Stop, most-stops, most-places}
 use Rattle.stops.proofs.Lists.{each-set, each-copy, getD-set-at}
-use Rattle.book.specs.Limits.{most-load, last-minute, most-minutes, most-cost}
+use Rattle.book.specs.Limits.{most-load, most-made, last-minute, most-minutes, most-cost}
 use Rattle.book.specs.Ranges.{between, fleet-fits, fleet-ok, visit-fits, visit-ok, leg-fits, leg-ok, blank-visit, blank-leg, apart, leg-index, Visits-ok, Legs-ok}
 use Rattle.book.specs.Books.{Contents, can-put-visit, can-put-leg}
 use Rattle.book.specs.declared.parts.Fleet.{Fleet}
@@ -23,6 +23,9 @@ use Rattle.book.specs.declared.parts.Leg.{Leg}
 
 pub few-stops : (stops : ℕ) (f : Fleet) → fleet-ok stops f ≡ true → stops ≤ most-stops
 few-stops stops f e = grind (arith, tells)
+
+pub most-in-range : (stops : ℕ) (f : Fleet) → fleet-ok stops f ≡ true → f .most ≤ most-made
+most-in-range stops f e = grind (arith, tells)
 
 pub closes-in-day : (stops j : ℕ) (v : Visit) → visit-ok stops j v ≡ true → v .closes ≤ last-minute
 closes-in-day stops j v e = grind (arith, tells)

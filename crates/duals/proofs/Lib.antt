@@ -1,3 +1,5 @@
 pub mod Credits
 pub mod Plans
+pub mod Legs
+pub mod Sets
 pub mod Lawful

@@ -1,13 +1,10 @@
 -- Round keeps the laws over every book.
-use mathlib.Core.Path.{_≡_, refl, sym, ap, subst, _∙_}
+use mathlib.Core.Path.{_≡_, refl, sym, ap}
 use mathlib.Core.Bool.{Bool, true, false, cond, _&&_}
-use mathlib.Core.List.{List}
-use Prim.Native.Nat.{ℕ, _+_, _*_, _^_, _<_, _≤_, max}
+use Prim.Native.Nat.{ℕ, _≤_}
 use native.Mathlib.Omega.{arith}
 use lib.Dec.{leb}
-use lib.IntN.{ℤ, pos, natAbs, _+ℤ_}
-use lib.ListN.{getD}
-use lib.Signed.{_≤ℤ_}
+use lib.IntN.{ℤ, pos, _+ℤ_}
 use Rattle.std.proofs.shelf.Signed.{ints}
 use Rattle.std.proofs.shelf.Tests.{leb-true, le-leb}
 use Rattle.std.proofs.shelf.Ways.{tells}
@@ -15,21 +12,20 @@ use Rattle.std.specs.declared.option.Option.{Option}
 use Rattle.std.specs.declared.option.Option.the-variants.{None, Some}
 use Rattle.std.specs.declared.result.Result.{Result}
 use Rattle.std.specs.declared.result.Result.the-variants.{Ok, Err}
-use Rattle.stops.specs.Stops.{Stop, most-stops, most-places}
+use Rattle.stops.specs.Stops.{Stop}
 use Rattle.tier.specs.Answers.{Standing, at-depot, reached}
 use Rattle.tier.specs.Laws.{Is-leg, Interface, Gap-laws, Key-laws, Reaches-within}
 use Rattle.tier.proofs.Options.{none-some, some-same}
-use Rattle.book.specs.Ranges.{Visits-ok, Legs-ok, blank-visit, blank-leg, leg-index}
 use Rattle.book.specs.Books.{Contents, is-stop, can-go, visit-at, leg-at}
-use Rattle.book.specs.declared.parts.Leg.{Leg}
-use Rattle.book.proofs.Fits.{closes-in-day, leg-in-range}
+use Rattle.book.proofs.Kept.{In-ranges, stops-kept, close-kept, leg-kept}
 use Rattle.duals.specs.Bottoms.{Base, costing, plain, Base-laws}
 use Rattle.duals.proofs.Plans.{plain-was, plain-is}
+use Rattle.duals.proofs.Legs.{leg-of, of-leg, ok-same, err-ok, costs}
 use Rattle.round.specs.declared.state.RoundState.{RoundState}
 use Rattle.round.specs.declared.state.Barred.{Barred}
 use Rattle.round.specs.declared.state.Barred.the-variants.{NoLeg, TooLate, TooHeavy}
 use Rattle.round.specs.Round.{arrival, loaded, state, drives, goes-home, round-gap, round-base}
-use Rattle.round.proofs.Arrivals.{leg-between, no-overtaking, arrives-later}
+use Rattle.round.proofs.Arrivals.{no-overtaking, arrives-later}
 
 -- WHAT IT SAYS THAT A LEG IS DRIVEN
 
@@ -39,18 +35,6 @@ record Driven (p : Contents) (s : RoundState) (i j : ℕ) (t : RoundState) : Typ
   room : loaded p j (s .load) ≤ p .fleet .capacity
   minute : t .minute ≡ arrival p i j (s .minute)
   load : t .load ≡ loaded p j (s .load)
-
-ok-same : {E S : Type 0} {s t : S} → _≡_ {A = Result S E} (Ok s) (Ok t) → s ≡ t
-ok-same e = cc
-
-err-ok : {E S : Type 0} {x : E} {t : S} → _≡_ {A = Result S E} (Err x) (Ok t) → ⊥
-err-ok e = let z : _≡_ {A = ℕ} 0 1 = cc in omega arith
-
-leg-of : (p : Contents) (i j : ℕ) → can-go p i j ≡ true → Is-leg (p .stops) i j
-leg-of p i j e = record { apart = grind (arith, tells); to = (grind (arith, tells), grind (arith, tells)); from = grind (arith, tells) }
-
-of-leg : (p : Contents) (i j : ℕ) → Is-leg (p .stops) i j → can-go p i j ≡ true
-of-leg p i j l = let a = l .apart in let b = l .to .0 in let c = l .to .1 in let d = l .from in grind (arith, tells)
 
 driven : (p : Contents) (s : RoundState) (i j : ℕ) (t : RoundState) → drives p s i j ≡ Ok t → Driven p s i j t
 driven p s i j t e = by (can-go p i j) (leb (arrival p i j (s .minute)) (visit-at p j .closes)) (leb (loaded p j (s .load)) (p .fleet .capacity)) refl refl refl e
@@ -76,16 +60,6 @@ drive-on p s i j l h r =
     let y = le-leb _ _ h in
     let z = le-leb _ _ r in
     rw (x, y, z)
-
-record Costs {E S : Type 0} (c : ℕ) (o : Result S E) (t : S) (x : ℤ) : Type 0 where
-  was : o ≡ Ok t
-  cost : x ≡ pos c
-
-costs : {E S : Type 0} (c : ℕ) (o : Result S E) (t : S) (x : ℤ) → costing c o ≡ Some (t, x) → Costs c o t x
-costs {E} {S} c (Ok s) t x e =
-    let q = some-same e in
-    record { was = ap Ok (ap (λ (r : S × ℤ). r .0) q); cost = sym (ap (λ (r : S × ℤ). r .1) q) }
-costs c (Err f) t x e = absurd (none-some e)
 
 -- what it says that a stop has a way home
 home : (p : Contents) (i : ℕ) (x : ℤ) → goes-home p i ≡ Some x → Stop (p .stops) i × (x ≡ pos (leg-at p i 0 .cost))
@@ -113,12 +87,6 @@ no-gap : (a b : RoundState) → a .minute ≤ b .minute → a .load ≤ b .load 
 no-gap a b m l = grind (arith, tells)
 
 -- THE LAWS
-
--- what a book keeps of its numbers, as far as Round needs it
-pub record In-ranges (p : Contents) : Type 0 where
-  pub few : p .stops ≤ most-stops
-  pub visits : Visits-ok (p .stops) (p .visits)
-  pub legs : Legs-ok (p .stops) (p .legs)
 
 module _ (p : Contents) (ok : In-ranges p) where
   abbrev base : Base RoundState
@@ -172,15 +140,11 @@ module _ (p : Contents) (ok : In-ranges p) where
     finish-follows = λ i a b g y st x z e f. record { charge = y; finishes = f; small = omega (arith, ints) };
   }
 
-  -- a place of the book is one of the table's
-  in-table : (j : ℕ) → j ≤ p .stops → j < most-places
-  in-table j h = let few = ok .few in omega arith
-
   in-range : (i : ℕ) (s : RoundState) → Standing (plain base) i s → s .minute ≤ 1440
   in-range i s at-depot = omega arith
   in-range i s (reached {i = h} {s = r} j t x st e) =
       let v = reach-driven r t h j x e in
-      let c = closes-in-day (p .stops) j (visit-at p j) (ok .visits j) in
+      let c = close-kept p ok j in
       let a = v .in-time in
       let b = v .minute in
       omega arith
@@ -191,35 +155,28 @@ module _ (p : Contents) (ok : In-ranges p) where
     key-in-range = in-range;
     reach-raises-key = λ i j s t x st e.
         let v = reach-driven s t i j x e in
-        let l = arrives-later p i j (s .minute) (ok .legs) (in-table j (v .leg .to .1)) (v .leg .apart) in
+        let l = arrives-later p ok i j (s .minute) (v .leg .to .1) (v .leg .apart) in
         let m = v .minute in
         omega arith;
     gap-orders-keys = λ i a b g st x y e. ahead a b g e .minute;
   }
-
-  -- a leg's cost
-  leg-cost : (i j : ℕ) → j ≤ p .stops → (j ≡ i → ⊥) → leg-at p i j .cost ≤ 2 ^ 30
-  leg-cost i j to apart =
-      let e = ap (λ (l : Leg). l .cost) (leg-between p i j apart) in
-      let c = leg-in-range (p .stops) i j (getD (p .legs) (leg-index i j) blank-leg) (in-table j to) (ok .legs i j) .cost in
-      omega arith
 
   pub round-base-laws : Base-laws base
   round-base-laws = record {
     interface = interface;
     gaps = gaps;
     keys = keys;
-    few-stops = ok .few;
+    few-stops = stops-kept p ok;
     reach-small = λ i j s t x st e.
         let k = costs (leg-at p i j .cost) (drives p s i j) t x e in
         let v = driven p s i j t (k .was) in
-        let c = leg-cost i j (v .leg .to .1) (v .leg .apart) in
+        let c = leg-kept p ok i j (v .leg .to .1) (v .leg .apart) .cost in
         let y = k .cost in
         omega (arith, ints);
     finish-small = λ i s x st e.
         let h = home p i x e in
         let from = h .0 .0 in
-        let c = leg-cost i 0 (omega arith) (λ z. omega arith) in
+        let c = leg-kept p ok i 0 (omega arith) (λ z. omega arith) .cost in
         let y = h .1 in
         omega (arith, ints);
     gap-small = λ i a b g st x y e. let h = ahead a b g e .none in omega arith;

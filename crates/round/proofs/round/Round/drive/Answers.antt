@@ -1,21 +1,13 @@
-use mathlib.Core.Path.{_≡_, refl, sym, ap, _∙_}
-use mathlib.Core.Bool.{Bool, true, false, cond, not, _&&_}
+use mathlib.Core.Path.{_≡_, refl}
+use mathlib.Core.Bool.{false}
 use Prim.Native.Nat.{ℕ}
-use lib.Dec.{eqb}
-use Rattle.std.proofs.shelf.Tests.{eq-eqb}
 use Rattle.std.specs.declared.result.Result.the-variants.{Err}
-use Rattle.book.specs.Books.{Contents, contents, can-go, is-place, is-stop}
+use Rattle.book.specs.Books.{Contents, contents, can-go}
+use Rattle.book.proofs.Kept.{nowhere}
 use Rattle.round.specs.declared.state.RoundState.{RoundState}
 use Rattle.round.specs.declared.state.Barred.the-variants.{NoLeg}
 use Rattle.round.specs.Round.{drives}
 use Rattle.round.proofs.round.Round.drive.Needs as need
-
-nothing : (x : Bool) → (x && false) ≡ false
-nothing true = refl
-nothing false = refl
-
-nowhere : (b : Contents) (i j : ℕ) → i ≡ j → can-go b i j ≡ false
-nowhere b i j e = ap (λ t. is-place b i && is-stop b j && not t) (eq-eqb i j e) ∙ nothing (is-place b i && is-stop b j)
 
 stays : (b : Contents) (s : RoundState) (i j : ℕ) → can-go b i j ≡ false → Err NoLeg ≡ drives b s i j
 stays b s i j e = rw e refl
