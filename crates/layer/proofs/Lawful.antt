@@ -13,25 +13,30 @@ use Rattle.layer.proofs.Parts.{step-parts}
 use Rattle.layer.proofs.Costs.{over-plans, over-no-cheaper, same-walks, same-costs}
 use Rattle.layer.proofs.Gaps.{over-gaps}
 use Rattle.layer.proofs.SizesAndKeys.{over-sizes, over-keys}
-use Rattle.layer.proofs.Calls.{Good-table, tighten-changed, made-layer}
+use Rattle.layer.proofs.Calls.{own-tighten-at, Good-table, tighten-changed, made-layer}
 
 module _ {S M T Table : Type 0} (pair : Pairing S M T) (kind : Kind Table M) (Good : ℕ → Table → Type 0) (owed : Kind-laws kind Good) (d : Meaning S) where
-  -- a taken tighten of the layer's own, or of a tier below, makes no route cheaper
-  made-no-cheaper : (v w : Layer-value (d .Value) Table) (tier index set : ℕ) (amount : ℤ) → Laws d (v .under) → Good-table Good d v → higher (d .answers (v .under) .tiers) ≤ most-tiers → open-layer pair kind d .tightens v tier index set amount ≡ taken w → No-cheaper (open-layer pair kind d .answers v) (open-layer pair kind d .answers w)
-  made-no-cheaper v w tier index set amount l h few e =
+  -- a taken tighten of the layer's own makes no route cheaper
+  own-no-cheaper : (v : Layer-value (d .Value) Table) (u : Table) (index set : ℕ) (amount : ℤ) → Laws d (v .under) → Good-table Good d v → higher (d .answers (v .under) .tiers) ≤ most-tiers → own-tighten-at pair kind d v index set amount ≡ taken u → No-cheaper (open-layer pair kind d .answers v) (open-layer pair kind d .answers (layer-at (v .under) u))
+  own-no-cheaper v u index set amount l h few e =
+      let m = d .answers (v .under) in
+      let less = owed .tighten-no-cheaper (m .stops) (v .table) u index set amount h e in
+      over-no-cheaper pair m (kind .own-of (v .table)) few (l .sizes) (owed .own-laws (m .stops) (v .table) h) m (kind .own-of u) less (same-costs m)
+
+  -- nor does one that was taken below
+  passed-no-cheaper : (v : Layer-value (d .Value) Table) (x : d .Value) (tier index set : ℕ) (amount : ℤ) → Laws d (v .under) → Good-table Good d v → higher (d .answers (v .under) .tiers) ≤ most-tiers → d .tightens (v .under) tier index set amount ≡ taken x → No-cheaper (open-layer pair kind d .answers v) (open-layer pair kind d .answers (layer-at x (v .table)))
+  passed-no-cheaper v x tier index set amount l h few e =
       let m = d .answers (v .under) in
       let o = kind .own-of (v .table) in
-      let before = open-layer pair kind d .answers v in
-      let own = owed .own-laws (m .stops) (v .table) h in
+      let less = l .tighten-no-cheaper x tier index set amount e in
+      over-no-cheaper pair m o few (l .sizes) (owed .own-laws (m .stops) (v .table) h) (d .answers x) o (same-walks o) less
+
+  made-no-cheaper : (v w : Layer-value (d .Value) Table) (tier index set : ℕ) (amount : ℤ) → Laws d (v .under) → Good-table Good d v → higher (d .answers (v .under) .tiers) ≤ most-tiers → open-layer pair kind d .tightens v tier index set amount ≡ taken w → No-cheaper (open-layer pair kind d .answers v) (open-layer pair kind d .answers w)
+  made-no-cheaper v w tier index set amount l h few e =
+      let To = λ (x : Layer-value (d .Value) Table). No-cheaper (open-layer pair kind d .answers v) (open-layer pair kind d .answers x) in
       ⊎-elim
-      (λ k.
-        let less = owed .tighten-no-cheaper (m .stops) (v .table) (k .value) index set amount h (k .is) in
-        subst (λ x. No-cheaper before (open-layer pair kind d .answers x)) (k .same)
-        (over-no-cheaper pair m o few (l .sizes) own m (kind .own-of (k .value)) less (same-costs m)))
-      (λ k.
-        let less = l .tighten-no-cheaper (k .value) tier index set amount (k .is) in
-        subst (λ x. No-cheaper before (open-layer pair kind d .answers x)) (k .same)
-        (over-no-cheaper pair m o few (l .sizes) own (d .answers (k .value)) o (same-walks o) less))
+      (λ k. subst To (k .same) (own-no-cheaper v (k .value) index set amount l h few (k .is)))
+      (λ k. subst To (k .same) (passed-no-cheaper v (k .value) tier index set amount l h few (k .is)))
       (tighten-changed pair kind d v w tier index set amount e)
 
   -- up to four tiers it keeps the laws of one value's answers

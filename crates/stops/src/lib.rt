@@ -29,7 +29,8 @@ impl StopSet {
     pub fn word(self) -> u64
         ensures { λ r. ⌜ r ≡ self .word ⌝ }
     {
-        self.word
+        let StopSet { word } = self;
+        word
     }
 
     pub fn empty() -> StopSet
