@@ -1,0 +1,34 @@
+use mathlib.Core.Path.{_≡_, sym, ap, _∙_}
+use Prim.Native.Nat.{ℕ, _+_, _<_, _≤_, _^_}
+use borrow.Author.Needs.{needs}
+use native.Mathlib.Omega.{arith}
+use lib.ListN.{length}
+use Rattle.cuts.specs.Bits.{stands, sum-below}
+use Rattle.cuts.specs.Cuts.{fee, lag, cut-at}
+use Rattle.cuts.specs.Contents.{cuts-of}
+use Rattle.cuts.proofs.Arrays.{length-of}
+use Rattle.cuts.proofs.Loops.{sum-fits, sum-step, lag-small}
+use Rattle.cuts.proofs.table.CutTable.gap.Needs as need
+
+pub add-sum : need.add-sum
+add-sum c =
+    let t = c .args .self .now in
+    let few = t .few in
+    let k = c .loop-k .k in
+    let f : ℕ → ℕ = λ k. lag (cut-at (cuts-of (c .args .self .now)) k) (stands (c .args .a) k) (stands (c .args .b) k) in
+    let s = sum-fits f k (c .loop-k .sum) (c .lag-sum .result) (lag-small t (c .args .a) (c .args .b)) (omega (arith, c .loop-k-test .taken)) (c .loop-k .inv) (c .lag-sum .ensures ∙ ap (λ x. lag x (c .has .result) (c .has-in-loop-k .result)) (c .cut .ensures) ∙ ap (λ a. lag (cut-at (cuts-of t) k) a (c .has-in-loop-k .result)) (c .has .ensures) ∙ ap (λ b. lag (cut-at (cuts-of t) k) (stands (c .args .a) k) b) (c .has-in-loop-k .ensures)) in
+    omega arith
+
+pub loop-k-again : need.loop-k-again
+loop-k-again c =
+    let t = c .args .self .now in
+    let k = c .loop-k .k in
+    let f : ℕ → ℕ = λ k. lag (cut-at (cuts-of (c .args .self .now)) k) (stands (c .args .a) k) (stands (c .args .b) k) in
+    sum-step f k (c .loop-k .sum) (c .lag-sum .result) (c .loop-k .inv) (c .lag-sum .ensures ∙ ap (λ x. lag x (c .has .result) (c .has-in-loop-k .result)) (c .cut .ensures) ∙ ap (λ a. lag (cut-at (cuts-of t) k) a (c .has-in-loop-k .result)) (c .has .ensures) ∙ ap (λ b. lag (cut-at (cuts-of t) k) (stands (c .args .a) k) b) (c .has-in-loop-k .ensures))
+
+pub returns : need.returns
+returns c =
+    let t = c .args .self .now in
+    let l = length-of t in
+    let last : c .loop-k .k ≡ length (cuts-of t) = omega (arith, c .loop-k-test .left, c .loop-k .kept .k-end) in
+    c .loop-k .inv ∙ ap (sum-below (λ k. lag (cut-at (cuts-of (c .args .self .now)) k) (stands (c .args .a) k) (stands (c .args .b) k))) last

@@ -1,0 +1,5 @@
+pub mod Bits
+pub mod Cuts
+pub mod Tables
+pub mod Contents
+pub mod Layer

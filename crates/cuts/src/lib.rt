@@ -1,0 +1,17 @@
+//! Limited-memory subset-row cuts, as a layer over any tier.
+//!
+//! A cut has three stops, and a bit in the state. A route that visits two of the stops, with the
+//! bit kept by the cut's memory in between, is charged the cut's penalty.
+mod asks;
+mod bits;
+mod calls;
+mod cut;
+mod layer;
+mod table;
+
+pub use bits::Bits;
+pub use cut::Cut;
+pub use layer::Cuts;
+pub use layer::CutsState;
+pub use layer::CutsTier;
+pub use table::CutTable;
