@@ -17,7 +17,7 @@ impl CutTable {
     }
 
     /// The bits after reaching a stop.
-    pub fn bits_after(&self, to: usize, bits: Bits) -> Bits
+    pub(crate) fn bits_after(&self, to: usize, bits: Bits) -> Bits
         ensures { λ r. ⌜ r ≡ bits-after (cuts-of (now (self .entry))) to bits ⌝ }
     {
         let mut after = Bits::none();
@@ -30,7 +30,7 @@ impl CutTable {
     }
 
     /// What reaching a stop is charged.
-    pub fn charge(&self, to: usize, bits: Bits) -> u64
+    pub(crate) fn charge(&self, to: usize, bits: Bits) -> u64
         ensures { λ r. ⌜ r ≡ charge-at (cuts-of (now (self .entry))) to bits ⌝ }
     {
         let mut sum = 0;
@@ -41,7 +41,7 @@ impl CutTable {
     }
 
     /// By how much a state with the bits `a` may do worse than one with the bits `b`.
-    pub fn gap(&self, a: Bits, b: Bits) -> u64
+    pub(crate) fn gap(&self, a: Bits, b: Bits) -> u64
         ensures { λ r. ⌜ r ≡ gap-between (cuts-of (now (self .entry))) a b ⌝ }
     {
         let mut sum = 0;
@@ -52,7 +52,7 @@ impl CutTable {
     }
 
     /// The sum of the penalties.
-    pub fn penalties(&self) -> u64
+    pub(crate) fn penalties(&self) -> u64
         ensures { λ r. ⌜ r ≡ penalties-of (cuts-of (now (self .entry))) ⌝ }
     {
         let mut sum = 0;

@@ -10,7 +10,7 @@ pub struct Bits {
 }
 
 impl Bits {
-    pub fn none() -> Bits
+    pub(crate) fn none() -> Bits
         ensures { λ r. ⌜ r ≡ no-bits ⌝ }
     {
         Bits { word: 0 }
@@ -24,7 +24,7 @@ impl Bits {
     }
 
     /// The same bits, and 1 for this cut.
-    pub fn put(self, cut: usize) -> Bits
+    pub(crate) fn put(self, cut: usize) -> Bits
         requires { ⌜ cut < 32 ⌝ }
         ensures { λ r. ⌜ r ≡ with-bit self cut ⌝ }
     {

@@ -41,7 +41,7 @@ fn blank() -> Cut
 
 impl CutTable {
     /// The table without cuts.
-    pub fn new() -> CutTable
+    pub(crate) fn new() -> CutTable
         ensures { λ r. ⌜ cuts-of r ≡ [] ⌝ }
     {
         CutTable {
@@ -51,7 +51,7 @@ impl CutTable {
     }
 
     /// Puts the penalty of the cut `index` at `amount`; a refusal changes nothing.
-    pub fn set_penalty(&mut self, index: usize, amount: i64) -> Result<(), Refusal>
+    pub(crate) fn set_penalty(&mut self, index: usize, amount: i64) -> Result<(), Refusal>
         ensures { λ r. ⌜ Did (set-penalty (cuts-of (now (self .entry))) index amount) (cuts-of (now (self .entry))) r (cuts-of (now (self .exit))) ⌝ }
     {
         if index >= self.count {
@@ -66,7 +66,7 @@ impl CutTable {
 
     /// Adds `members` to the memory of the cut `index`, or makes them a new cut at the next index,
     /// whose penalty is `amount`; a refusal changes nothing.
-    pub fn tighten(
+    pub(crate) fn tighten(
         &mut self,
         stops: usize,
         index: usize,

@@ -23,7 +23,7 @@ impl Cut {
     }
 
     /// The bit after reaching a stop: turned at the cut's own stops.
-    pub fn next_bit(self, to: usize, bit: bool) -> bool
+    pub(crate) fn next_bit(self, to: usize, bit: bool) -> bool
         ensures { λ r. ⌜ r ≡ next-bit self to bit ⌝ }
     {
         let kept = self.kept(to, bit);
@@ -31,7 +31,7 @@ impl Cut {
     }
 
     /// The charge on reaching a stop: the penalty where the bit turns from 1 to 0.
-    pub fn fee(self, to: usize, bit: bool) -> u64
+    pub(crate) fn fee(self, to: usize, bit: bool) -> u64
         ensures { λ r. ⌜ r ≡ fee self to bit ⌝ }
     {
         if self.stops.has(to) && self.kept(to, bit) {
@@ -42,7 +42,7 @@ impl Cut {
     }
 
     /// By how much a state with the bit `a` may do worse than one with the bit `b`.
-    pub fn lag(self, a: bool, b: bool) -> u64
+    pub(crate) fn lag(self, a: bool, b: bool) -> u64
         ensures { λ r. ⌜ r ≡ lag self a b ⌝ }
     {
         if a && !b { self.penalty as u64 } else { 0 }

@@ -10,8 +10,6 @@ mod layer;
 mod table;
 
 pub use bits::Bits;
-pub use cut::Cut;
 pub use layer::Cuts;
 pub use layer::CutsState;
 pub use layer::CutsTier;
-pub use table::CutTable;

@@ -3,6 +3,7 @@
 //! Stops are numbered from 1 to n, and place 0 is the depot.
 ghost use mathlib.Core.Bool.{cond};
 ghost use mathlib.Core.Path.{_≡_};
+ghost use Prim.Native.Nat.{_+_, _^_};
 ghost use lib.Dec.{ltb};
 ghost use Rattle.stops.specs.Stops.{member, just, common, joined, within as «within-set», all-stops, count-to, empty-set};
 
@@ -86,7 +87,14 @@ impl StopSet {
     pub fn all_stops(self, stops: usize) -> bool
         ensures { λ r. ⌜ r ≡ all-stops stops (self .word) ⌝ }
     {
-        self.word % 2 == 0 && (stops >= 63 || self.word >> (stops + 1) == 0)
+        self.word % 2 == 0 && self.none_past(stops)
+    }
+
+    // Whether no member is past `last`.
+    fn none_past(self, last: usize) -> bool
+        ensures { λ r. ⌜ r ≡ ltb (self .word) (2 ^ (last + 1)) ⌝ }
+    {
+        last >= 63 || self.word >> (last + 1) == 0
     }
 
     /// How many of the stops 1 to `stops` are members.

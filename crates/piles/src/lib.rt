@@ -1,0 +1,3 @@
+//! Piles of layers over a stranger's bottom: no proof is owed for any of them.
+#[cfg(test)]
+mod tests;
