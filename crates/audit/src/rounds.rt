@@ -1,4 +1,4 @@
-//! The rounds that are audited.
+//! The books that are audited.
 use book::Book;
 use book::Fleet;
 use book::Leg;
@@ -7,7 +7,7 @@ use book::Visit;
 
 /// Two visits whose windows both open at minute zero.
 pub(crate) fn two_visits(capacity: u16) -> Result<Book, OutOfRange> {
-    let fleet = Fleet { vans: 2, capacity, battery: 40, most: 4 };
+    let fleet = Fleet { vans: 2, capacity, battery: 9, most: 2 };
     let mut book = Book::new(2, fleet)?;
     book.put_visit(1, Visit { opens: 0, closes: 10, load: 2, charger: false })?;
     book.put_visit(2, Visit { opens: 0, closes: 20, load: 3, charger: true })?;
@@ -24,5 +24,22 @@ pub(crate) fn two_visits(capacity: u16) -> Result<Book, OutOfRange> {
 pub(crate) fn early_close() -> Result<Book, OutOfRange> {
     let mut book = two_visits(10)?;
     book.put_visit(1, Visit { opens: 0, closes: 8, load: 2, charger: false })?;
+    Ok(book)
+}
+
+/// Four visits, open all day, each a minute and 2 mils from the others.
+pub(crate) fn four_visits() -> Result<Book, OutOfRange> {
+    let fleet = Fleet { vans: 2, capacity: 10, battery: 40, most: 4 };
+    let mut book = Book::new(4, fleet)?;
+    for stop in 1..5 {
+        book.put_visit(stop, Visit { opens: 0, closes: 1440, load: 1, charger: false })?;
+    }
+    for from in 0..5 {
+        for to in 0..5 {
+            if from != to {
+                book.put_leg(from, to, Leg { cost: 2, minutes: 1 })?;
+            }
+        }
+    }
     Ok(book)
 }

@@ -1,6 +1,8 @@
 //! The work sheet of a route: every leg, and what the route costs or why it is barred.
 ghost use mathlib.Core.Path.{_≡_};
 ghost use Rattle.audit.specs.Cheapest.{cheapest-of};
+use super::route::print_cost;
+use super::route::print_route;
 use round::Barred;
 use round::Round;
 use round::RoundTier;
@@ -72,16 +74,9 @@ fn print_legs(rt: &LibcRuntime, round: &Round, route: &[usize]) -> io::Result<()
 
 /// Prints the work sheet of a route, and answers its reduced cost if it is admitted.
 pub(crate) fn print_sheet(rt: &LibcRuntime, round: &Round, route: &[usize]) -> io::Result<Option<i64>> {
-    print!(rt, "  route")?;
-    for stop in route {
-        print!(rt, " {stop}")?;
-    }
-    println!(rt)?;
+    print_route(rt, route)?;
     print_legs(rt, round, route)?;
     let cost = replay(round, route);
-    match cost {
-        Some(mils) => println!(rt, "    reduced cost {mils}")?,
-        None => println!(rt, "    not admitted")?,
-    }
+    print_cost(rt, cost)?;
     Ok(cost)
 }
