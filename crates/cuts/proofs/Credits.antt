@@ -1,10 +1,10 @@
 -- The credit of a layer of cuts stays within a word. Assumes nothing.
-use mathlib.Core.Path.{_≡_, sym, ap, _∙_}
+use mathlib.Core.Path.{_≡_, sym, _∙_}
 use mathlib.Core.Bool.{cond}
-use Prim.Native.Nat.{ℕ, _+_, _*_, _^_, _<_, _≤_}
+use Prim.Native.Nat.{ℕ, _^_, _≤_}
 use native.Mathlib.Omega.{arith}
 use lib.Dec.{ltb}
-use lib.IntN.{ℤ, pos, natAbs, _-ℤ_}
+use lib.IntN.{ℤ, pos, natAbs}
 use Rattle.std.proofs.shelf.Tests.{le-ltb, cond-false}
 use Rattle.tier.specs.Meaning.{Meaning, here}
 use Rattle.tier.specs.Layers.{higher}

@@ -1,15 +1,15 @@
 -- What set and tighten give in each case. Assumes nothing.
-use mathlib.Core.Path.{_≡_, refl, sym, ap, subst, _∙_}
+use mathlib.Core.Path.{_≡_, refl, sym, subst, _∙_}
 use mathlib.Core.List.{List, [], _∷_, _++_}
-use mathlib.Core.Bool.{Bool, true, false, cond, _&&_}
-use Prim.Native.Nat.{ℕ, _+_, _<_, _≤_}
+use mathlib.Core.Bool.{true, false}
+use Prim.Native.Nat.{ℕ, _<_, _≤_}
 use native.Mathlib.Omega.{arith}
 use lib.Dec.{eqb, ltb}
 use lib.IntN.{ℤ, natAbs}
 use lib.ListN.{length, set}
 use Rattle.std.specs.declared.result.Result.the-variants.{Ok, Err}
 use Rattle.std.proofs.shelf.Tests.{lt-ltb, le-ltb, eq-eqb, ne-eqb, cond-true, cond-false}
-use Rattle.stops.specs.Stops.{member, all-stops, count-to}
+use Rattle.stops.specs.Stops.{all-stops}
 use Rattle.tier.specs.Meaning.{Outcome, taken, refused}
 use Rattle.tier.specs.Refusals.{number, Did}
 use Rattle.tier.specs.declared.refusal.Refusal.{Refusal}

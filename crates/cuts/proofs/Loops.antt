@@ -1,11 +1,9 @@
 -- A sum over the cuts of a table, step by step. Assumes nothing.
-use mathlib.Core.Path.{_≡_, refl, sym, ap, _∙_}
+use mathlib.Core.Path.{_≡_, ap, _∙_}
 use mathlib.Core.Bool.{Bool, true, false, cond, not, _&&_}
-use Prim.Native.Nat.{ℕ, suc, _+_, _*_, _^_, _<_, _≤_}
+use Prim.Native.Nat.{ℕ, suc, _+_, _^_, _<_, _≤_}
 use native.Mathlib.Omega.{arith}
-use lib.ListN.{length}
 use Rattle.cuts.specs.declared.bits.Bits.{Bits}
-use Rattle.cuts.specs.declared.cut.Cut.{Cut}
 use Rattle.cuts.specs.declared.table.CutTable.{CutTable}
 use Rattle.cuts.specs.Bits.{stands, with-bit, bits-where, sum-below}
 use Rattle.cuts.specs.Cuts.{is-charged, fee, lag, cut-at}

@@ -1,16 +1,16 @@
 -- The bits of those numbers that pass a test. Assumes nothing.
 use mathlib.Core.Path.{_≡_, refl, sym, ap, subst, _∙_}
-use mathlib.Core.Bool.{Bool, true, false, cond}
-use mathlib.Core.Logic.{_⊎_, inl, inr, ⊎-elim}
-use Prim.Native.Nat.{ℕ, zero, suc, _+_, _*_, _/_, _%_, _^_, _<_, _≤_}
+use mathlib.Core.Bool.{Bool, true, false}
+use mathlib.Core.Logic.{⊎-elim}
+use Prim.Native.Nat.{ℕ, zero, suc, _*_, _/_, _%_, _^_, _<_, _≤_}
 use native.Mathlib.Omega.{arith}
 use lib.Dec.{eqb}
 use Rattle.std.proofs.shelf.Bits.{shl-shr}
-use Rattle.std.proofs.shelf.Tests.{eq-eqb, cases-eq, cases-lt, cond-both}
-use Rattle.stops.specs.Stops.{member, just, joined}
-use Rattle.stops.proofs.Members.{not-member, no-member, none-in-empty, in-left, in-right, of-either, only-just}
+use Rattle.std.proofs.shelf.Tests.{cases-eq, cases-lt, cond-both}
+use Rattle.stops.specs.Stops.{member, just}
+use Rattle.stops.proofs.Members.{none-in-empty, in-left, in-right, of-either, only-just}
 use Rattle.cuts.specs.declared.bits.Bits.{Bits}
-use Rattle.cuts.specs.Bits.{stands, no-bits, with-bit, bits-where}
+use Rattle.cuts.specs.Bits.{stands, with-bit, bits-where}
 
 pub in-just : (k : ℕ) → member (just k) k ≡ true
 in-just k =

@@ -2,7 +2,7 @@
 use mathlib.Core.Path.{_≡_, refl, sym, ap, subst, _∙_}
 use mathlib.Core.List.{List, [], _∷_}
 use mathlib.Core.Bool.{Bool, true, false, cond, not, _&&_}
-use Prim.Native.Nat.{ℕ, zero, suc, _+_, _*_, _^_, _<_, _≤_}
+use Prim.Native.Nat.{ℕ, _+_, _^_, _<_, _≤_}
 use native.Mathlib.Omega.{arith}
 use lib.ListN.{length}
 use Rattle.std.specs.shelf.Lists.{All}
@@ -12,7 +12,7 @@ use Rattle.stops.proofs.Members.{none-in-empty}
 use Rattle.tier.specs.Routes.{Route, and-then}
 use Rattle.tier.specs.Plans.{visits}
 use Rattle.tier.proofs.Options.{some-same}
-use Rattle.layer.specs.Owns.{Own, Own-laws, Walks-no-cheaper, walk, walks, add}
+use Rattle.layer.specs.Owns.{Own-laws, Walks-no-cheaper, walk, walks, add}
 use Rattle.cuts.specs.declared.bits.Bits.{Bits}
 use Rattle.cuts.specs.declared.cut.Cut.{Cut}
 use Rattle.cuts.specs.Bits.{stands, no-bits, sum-below}

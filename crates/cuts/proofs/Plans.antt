@@ -1,8 +1,8 @@
 -- One cut over a plan: it is charged at most once. Assumes nothing.
-use mathlib.Core.Path.{_≡_, refl, sym, ap, subst, _∙_}
+use mathlib.Core.Path.{_≡_, refl, ap}
 use mathlib.Core.List.{List, [], _∷_}
-use mathlib.Core.Bool.{Bool, true, false, cond}
-use Prim.Native.Nat.{ℕ, zero, suc, _+_, _*_, _<_, _≤_}
+use mathlib.Core.Bool.{Bool, false}
+use Prim.Native.Nat.{ℕ, zero, suc, _+_, _*_, _≤_}
 use native.Mathlib.Omega.{arith}
 use native.Mathlib.Nat.{mul-add, mul-le-mul-left}
 use lib.IntN.{ℤ, pos, _+ℤ_}
@@ -14,7 +14,7 @@ use Rattle.tier.specs.Plans.{visits}
 use Rattle.tier.specs.Sums.{sum-over, sum-routes, sum-to}
 use Rattle.tier.proofs.Counts.{sum-once}
 use Rattle.cuts.specs.declared.cut.Cut.{Cut}
-use Rattle.cuts.proofs.Walks.{worth, charges, last-bit, pays, visits-in, halves, pays-charges}
+use Rattle.cuts.proofs.Walks.{worth, charges, pays, visits-in, halves, pays-charges}
 
 -- over routes, each from bit 0
 abbrev charges-over : Cut → List (List ℕ) → ℕ

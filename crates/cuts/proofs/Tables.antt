@@ -1,9 +1,9 @@
 -- What set and tighten keep of a table, and that tighten lowers no route's charges. Assumes nothing.
-use mathlib.Core.Path.{_≡_, refl, sym, ap, subst, _∙_}
+use mathlib.Core.Path.{_≡_, refl, sym, ap, subst}
 use mathlib.Core.List.{List, [], _∷_, _++_}
-use mathlib.Core.Bool.{Bool, true, false, cond, _&&_}
+use mathlib.Core.Bool.{Bool, true, cond}
 use mathlib.Core.Logic.{⊎-elim}
-use Prim.Native.Nat.{ℕ, zero, suc, _+_, _*_, _^_, _<_, _≤_}
+use Prim.Native.Nat.{ℕ, zero, suc, _^_, _<_, _≤_}
 use native.Mathlib.Omega.{arith}
 use lib.Dec.{eqb, leb, ltb}
 use lib.IntN.{ℤ, pos, natAbs}
@@ -14,12 +14,11 @@ use Rattle.std.proofs.shelf.Tests.{cond-both, ltb-true, leb-true, eqb-true, and
 use Rattle.stops.specs.Stops.{member, within, all-stops, count-to, joined}
 use Rattle.stops.proofs.Lists.{each-set}
 use Rattle.stops.proofs.Members.{not-member, all-stops-member, count-past, within-members, members-within, within-itself, in-left, none-in-empty}
-use Rattle.tier.specs.Meaning.{Outcome, taken, refused}
+use Rattle.tier.specs.Meaning.{taken, refused}
 use Rattle.tier.proofs.Outcomes.{taken-same, refused-taken}
-use Rattle.layer.specs.Owns.{Walks-no-cheaper}
 use Rattle.layer.specs.Layers.{Kind-laws}
 use Rattle.cuts.specs.declared.cut.Cut.{Cut}
-use Rattle.cuts.specs.Cuts.{blank-cut, cut-at, cuts-own}
+use Rattle.cuts.specs.Cuts.{blank-cut, cut-at}
 use Rattle.cuts.specs.Tables.{Good, in-range, reprice, set-penalty, remember, tighten-old, three-stops, new-cut, tighten-new, tighten-cut}
 use Rattle.cuts.specs.Layer.{cuts-kind}
 use Rattle.cuts.proofs.Walks.{Wider}

@@ -1,10 +1,10 @@
 -- One cut along a route, and with a larger memory. Assumes nothing.
-use mathlib.Core.Path.{_≡_, refl, sym, ap, subst, _∙_}
+use mathlib.Core.Path.{_≡_, refl, ap, subst}
 use mathlib.Core.List.{List, [], _∷_}
 use mathlib.Core.Bool.{Bool, true, false, cond, not, _&&_}
-use Prim.Native.Nat.{ℕ, zero, suc, _+_, _*_, _<_, _≤_}
+use Prim.Native.Nat.{ℕ, _+_, _*_, _≤_}
 use native.Mathlib.Omega.{arith}
-use native.Mathlib.Nat.{mul-add, mul-le-mul, mul-le-mul-left}
+use native.Mathlib.Nat.{mul-add, mul-le-mul}
 use Rattle.std.proofs.shelf.Tests.{false≢true}
 use Rattle.stops.specs.Stops.{member}
 use Rattle.cuts.specs.declared.cut.Cut.{Cut}

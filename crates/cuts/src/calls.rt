@@ -2,9 +2,10 @@
 ghost use mathlib.Core.List.{[]};
 ghost use mathlib.Core.Path.{_≡_};
 ghost use Prim.Native.Nat.{_<_};
+ghost use lib.ListN.{replicate};
 ghost use Rattle.tier.specs.Refusals.{Did};
 ghost use Rattle.cuts.specs.Contents.{cuts-of};
-ghost use Rattle.cuts.specs.Cuts.{blank-cut};
+ghost use Rattle.cuts.specs.Cuts.{most-cuts, blank-cut};
 ghost use Rattle.cuts.specs.Tables.{in-range, three-stops, set-penalty, tighten-old, tighten-new, tighten-cut};
 use super::cut::Cut;
 use super::table::CutTable;
@@ -39,13 +40,20 @@ fn blank() -> Cut
     }
 }
 
+// What stands in the array of a table without cuts.
+fn blanks() -> [Cut; MOST_CUTS]
+    ensures { λ r. ⌜ r ≡ replicate most-cuts blank-cut ⌝ }
+{
+    [blank(); MOST_CUTS]
+}
+
 impl CutTable {
     /// The table without cuts.
     pub(crate) fn new() -> CutTable
         ensures { λ r. ⌜ cuts-of r ≡ [] ⌝ }
     {
         CutTable {
-            cuts: [blank(); MOST_CUTS],
+            cuts: blanks(),
             count: 0,
         }
     }
@@ -102,7 +110,7 @@ impl CutTable {
         if amount != 0 {
             return Err(Refusal::BadAmount);
         }
-        self.cuts[index].memory = self.cuts[index].memory.joined(members);
+        self.cuts[index] = self.cuts[index].remembering(members);
         Ok(())
     }
 

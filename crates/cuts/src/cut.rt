@@ -1,6 +1,7 @@
 //! One cut.
 ghost use mathlib.Core.Path.{_≡_};
 ghost use Rattle.cuts.specs.Cuts.{kept-bit, next-bit, fee, lag};
+ghost use Rattle.cuts.specs.Tables.{remember};
 use stops::StopSet;
 
 /// A cut: its stops, the stops at which its bit is kept, and its penalty.
@@ -38,6 +39,17 @@ impl Cut {
             self.penalty as u64
         } else {
             0
+        }
+    }
+
+    /// The same cut, whose memory has the members too.
+    pub(crate) fn remembering(self, members: StopSet) -> Cut
+        ensures { λ r. ⌜ r ≡ remember self (members .word) ⌝ }
+    {
+        Cut {
+            stops: self.stops,
+            memory: self.memory.joined(members),
+            penalty: self.penalty,
         }
     }
 

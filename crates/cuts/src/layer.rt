@@ -119,7 +119,8 @@ pub impl<B: Tier> Tier for Cuts<B> as CutsTier {
         amount: i64,
     ) -> Result<(), Refusal> {
         if tier == self.tiers() {
-            return self.table.tighten(self.below.stops(), index, members, amount);
+            return self.table
+                .tighten(self.below.stops(), index, members, amount);
         }
         self.below.tighten(tier, index, members, amount)
     }

@@ -1,4 +1,3 @@
-use Rattle.tier.specs.Answers.{Answers}
 use Rattle.layer.proofs.Lawful.{made-lawful}
 use Rattle.cuts.specs.Contents.{cuts-of}
 use Rattle.cuts.specs.Layer.{cuts-pairing, cuts-kind}

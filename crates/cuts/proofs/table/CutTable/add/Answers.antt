@@ -1,20 +1,17 @@
 use mathlib.Core.Path.{_≡_, sym, ap, _∙_}
 use mathlib.Core.Bool.{true, false}
-use mathlib.Core.List.{List, [], _∷_, _++_}
-use Prim.Native.Nat.{_+_, _<_, _≤_}
-use borrow.Author.Needs.{needs}
+use mathlib.Core.List.{[], _∷_, _++_}
+use Prim.Native.Nat.{_+_}
 use native.Mathlib.Omega.{arith}
 use mir.Syntax.{w64}
 use mir.Val.{SFits, toZ, ofZ}
-use lib.ListN.{length, set, take}
+use lib.ListN.{set, take}
 use Rattle.std.proofs.shelf.Lists.{take-more-set}
 use Rattle.std.proofs.shelf.Signed.{toZ-ofZ}
-use Rattle.stops.proofs.Lists.{each-set}
 use Rattle.tier.specs.declared.refusal.Refusal.the-variants.{BadAmount, BadMembers, TableFull}
-use Rattle.cuts.specs.Cuts.{blank-cut}
 use Rattle.cuts.specs.Contents.{cuts-of}
 use Rattle.cuts.specs.Tables.{in-range, new-cut, tighten-new}
-use Rattle.cuts.proofs.Tables.{Good-cut, good-new}
+use Rattle.cuts.proofs.Tables.{good-new}
 use Rattle.cuts.proofs.Arrays.{cut-put, length-of}
 use Rattle.cuts.proofs.Gives.{did-refused, did-taken, new-full, new-bad-members, new-bad-amount, new-taken}
 use Rattle.cuts.proofs.table.CutTable.add.Needs as need

@@ -1,10 +1,9 @@
-use mathlib.Core.Path.{_≡_, sym, ap, subst, _∙_}
-use mathlib.Core.Bool.{Bool, true, false, cond}
-use Prim.Native.Nat.{ℕ, _+_, _<_, _≤_}
-use borrow.Author.Needs.{needs}
+use mathlib.Core.Path.{_≡_, sym, ap, _∙_}
+use mathlib.Core.Bool.{Bool, true, false}
+use Prim.Native.Nat.{ℕ}
 use native.Mathlib.Omega.{arith}
 use lib.ListN.{length}
-use Rattle.cuts.specs.Bits.{stands, with-bit, bits-where}
+use Rattle.cuts.specs.Bits.{stands, bits-where}
 use Rattle.cuts.specs.Cuts.{next-bit, cut-at}
 use Rattle.cuts.specs.Contents.{cuts-of}
 use Rattle.cuts.proofs.Arrays.{length-of}
@@ -19,8 +18,8 @@ loop-k-again c =
     let p : ℕ → Bool = λ k. next-bit (cut-at (cuts-of t) k) (c .args .to) (stands (c .args .bits) k) in
     let is : c .next-bit .result ≡ p k = c .next-bit .ensures ∙ ap (λ x. next-bit x (c .args .to) (c .has .result)) (c .cut .ensures) ∙ ap (λ b. next-bit (cut-at (cuts-of t) k) (c .args .to) b) (c .has .ensures) in
     elim (c .if-next-bit .came) [
-      then-next-bit w ↦ w .after-is ∙ w .put-after .ensures ∙ bits-step p k (c .loop-k .after) true (c .loop-k .inv) (sym (w .if-next-bit .taken) ∙ is)
-    | else-next-bit w ↦ w .after-is ∙ bits-step p k (c .loop-k .after) false (c .loop-k .inv) (sym (w .if-next-bit .left) ∙ is)
+      | then-next-bit w ↦ w .after-is ∙ w .put-after .ensures ∙ bits-step p k (c .loop-k .after) true (c .loop-k .inv) (sym (w .if-next-bit .taken) ∙ is)
+      | else-next-bit w ↦ w .after-is ∙ bits-step p k (c .loop-k .after) false (c .loop-k .inv) (sym (w .if-next-bit .left) ∙ is)
     ]
 
 pub returns : need.returns

@@ -1,10 +1,9 @@
-use mathlib.Core.Path.{_≡_, sym, ap, _∙_}
-use Prim.Native.Nat.{ℕ, _+_, _<_, _≤_, _^_}
-use borrow.Author.Needs.{needs}
+use mathlib.Core.Path.{_≡_, ap, _∙_}
+use Prim.Native.Nat.{ℕ}
 use native.Mathlib.Omega.{arith}
 use lib.ListN.{length}
 use Rattle.cuts.specs.Bits.{stands, sum-below}
-use Rattle.cuts.specs.Cuts.{fee, lag, cut-at}
+use Rattle.cuts.specs.Cuts.{lag, cut-at}
 use Rattle.cuts.specs.Contents.{cuts-of}
 use Rattle.cuts.proofs.Arrays.{length-of}
 use Rattle.cuts.proofs.Loops.{sum-fits, sum-step, lag-small}

@@ -1,14 +1,17 @@
-use mathlib.Core.Path.{refl, sym, subst}
+use mathlib.Core.Path.{_≡_, refl, sym, subst}
+use mathlib.Core.List.{List}
+use Prim.Native.Nat.{ℕ}
 use native.Mathlib.Omega.{arith}
-use lib.ListN.{replicate}
+use lib.ListN.{length}
 use Rattle.stops.proofs.Lists.{each-copy}
 use Rattle.cuts.specs.declared.cut.Cut.{Cut}
-use Rattle.cuts.specs.Cuts.{blank-cut}
+use Rattle.cuts.specs.Cuts.{blank-cut, cut-at}
 use Rattle.cuts.proofs.Tables.{Good-cut, good-blank}
 use Rattle.cuts.proofs.Arrays.{kept-parts}
 use Rattle.cuts.proofs.table.CutTable.new.Needs as need
 
 pub ghost-result : need.ghost-result
 ghost-result c =
-    let good = subst (λ (x : Cut). Good-cut x) (sym (c .blank .ensures)) good-blank in
-    (omega arith, kept-parts (replicate 32 (c .blank .result)) refl (each-copy Good-cut blank-cut 32 (c .blank .result) good good-blank))
+    let e = sym (c .blanks .ensures) in
+    let good = each-copy Good-cut blank-cut 32 blank-cut good-blank good-blank in
+    (omega arith, kept-parts (c .blanks .result) (subst (λ (xs : List Cut). length xs ≡ 32) e refl) (subst (λ (xs : List Cut). (k : ℕ) → Good-cut (cut-at xs k)) e good))

@@ -1,18 +1,15 @@
 use mathlib.Core.Path.{_≡_, sym, ap, _∙_}
 use mathlib.Core.Bool.{true, false}
-use Prim.Native.Nat.{_<_, _≤_}
-use borrow.Author.Needs.{needs}
 use native.Mathlib.Omega.{arith}
 use mir.Syntax.{w64}
 use mir.Val.{SFits, toZ, ofZ}
-use lib.ListN.{length, set, take}
+use lib.ListN.{set, take}
 use Rattle.std.proofs.shelf.Signed.{toZ-ofZ}
-use Rattle.stops.proofs.Lists.{each-set}
 use Rattle.tier.specs.declared.refusal.Refusal.the-variants.{NoSuchIndex, BadAmount}
-use Rattle.cuts.specs.Cuts.{blank-cut, cut-at}
+use Rattle.cuts.specs.Cuts.{cut-at}
 use Rattle.cuts.specs.Contents.{cuts-of}
 use Rattle.cuts.specs.Tables.{in-range, reprice, set-penalty}
-use Rattle.cuts.proofs.Tables.{Good-cut, good-reprice}
+use Rattle.cuts.proofs.Tables.{good-reprice}
 use Rattle.cuts.proofs.Arrays.{table-cut, cut-put, length-of, cut-changed}
 use Rattle.cuts.proofs.Gives.{did-refused, did-taken, set-no-index, set-bad-amount, set-taken}
 use Rattle.cuts.proofs.table.CutTable.set_penalty.Needs as need

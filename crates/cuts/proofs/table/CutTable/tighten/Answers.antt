@@ -1,10 +1,7 @@
-use mathlib.Core.Path.{_≡_, sym, subst}
-use Prim.Native.Nat.{_<_, _≤_}
-use borrow.Author.Needs.{needs}
+use mathlib.Core.Path.{sym, subst}
 use native.Mathlib.Omega.{arith}
 use mir.Syntax.{w64}
 use mir.Val.{SFits}
-use lib.ListN.{length}
 use Rattle.std.proofs.shelf.Signed.{toZ-ofZ}
 use Rattle.tier.specs.Refusals.{Did}
 use Rattle.tier.specs.declared.refusal.Refusal.the-variants.{NoSuchIndex}
