@@ -1,0 +1,10 @@
+pub mod Members
+pub mod Traces
+pub mod Holds
+pub mod Ends
+pub mod Covers
+pub mod Moments
+pub mod Lowest
+pub mod Small
+pub mod Order
+pub mod Gaps

@@ -1,0 +1,4 @@
+pub mod Members
+pub mod Labelling
+pub mod Moments
+pub mod Lowest

@@ -1,0 +1,3 @@
+pub mod TwoVisits
+pub mod Penalty
+pub mod Told
