@@ -7,10 +7,12 @@ use native.Mathlib.Omega.{arith}
 use lib.Dec.{eqb, ltb}
 use lib.IntN.{ℤ, natAbs}
 use lib.ListN.{length, set}
+use Rattle.std.specs.declared.result.Result.{Result}
 use Rattle.std.specs.declared.result.Result.the-variants.{Ok, Err}
 use Rattle.std.proofs.shelf.Tests.{lt-ltb, le-ltb, eq-eqb, ne-eqb, cond-true, cond-false}
 use Rattle.stops.specs.Stops.{all-stops}
 use Rattle.tier.specs.Meaning.{Outcome, taken, refused}
+use Rattle.tier.specs.Layers.{own-or-below}
 use Rattle.tier.specs.Refusals.{number, Did}
 use Rattle.tier.specs.declared.refusal.Refusal.{Refusal}
 use Rattle.cuts.specs.declared.cut.Cut.{Cut}
@@ -24,6 +26,10 @@ did-refused o v e q = subst (λ o. Did o v (Err e) v) (sym q) (refl, refl)
 -- a call that is taken
 pub did-taken : {V : Type 0} (o : Outcome V) (v w after : V) → o ≡ taken w → after ≡ w → Did o v (Ok tt) after
 did-taken o v w after q e = subst (λ o. Did o v (Ok tt) after) (sym q) e
+
+-- a call that is the layer's own
+pub did-own : {V : Type 0} (tiers tier : ℕ) (own below : Outcome V) (before : V) (r : Result (Unit {0}) Refusal) (after : V) → tier ≡ tiers → Did own before r after → Did (own-or-below tiers tier own below) before r after
+did-own tiers tier own below before r after e d = subst (λ o. Did o before r after) (sym (cond-true (eqb tier tiers) own below (eq-eqb _ _ e))) d
 
 module _ (cs : List Cut) (index : ℕ) (amount : ℤ) where
   pub set-no-index : length cs ≤ index → set-penalty cs index amount ≡ refused 8

@@ -8,11 +8,8 @@ use Rattle.cuts.specs.declared.table.CutTable.{CutTable}
 use Rattle.cuts.specs.Bits.{stands, with-bit, bits-where, sum-below}
 use Rattle.cuts.specs.Cuts.{is-charged, fee, lag, cut-at}
 use Rattle.cuts.specs.Contents.{cuts-of}
-use Rattle.cuts.proofs.Sums.{sum-most}
+use Rattle.cuts.proofs.Sums.{sum-more, sum-most}
 use Rattle.cuts.proofs.Arrays.{table-good}
-
-abbrev pub at-most-one : (ℕ → ℕ) → Type 0
-at-most-one f = (k : ℕ) → f k ≤ 2 ^ 30
 
 some-penalty : (b : Bool) (p : ℕ) → p ≤ 2 ^ 30 → cond b p 0 ≤ 2 ^ 30
 some-penalty true p l = l
@@ -33,7 +30,7 @@ pub sum-fits : (f : ℕ → ℕ) (k sum x : ℕ) → ((k : ℕ) → f k ≤ 2 ^ 
 sum-fits f k sum x small l e g = let s = sum-most f (2 ^ 30) k small in let y = small k in omega arith
 
 pub sum-step : (f : ℕ → ℕ) (k sum x : ℕ) → sum ≡ sum-below f k → x ≡ f k → sum + x ≡ sum-below f (k + 1)
-sum-step f k sum x e g = let s : sum-below f (k + 1) ≡ sum-below f (suc k) = ap (sum-below f) (let z : k + 1 ≡ suc k = omega arith in z) in omega arith
+sum-step f k sum x e g = let s = sum-more f k in omega arith
 
 pub bits-step : (p : ℕ → Bool) (k : ℕ) (bits : Bits) (b : Bool) → bits ≡ bits-where p k → b ≡ p k → cond b (with-bit bits k) bits ≡ bits-where p (k + 1)
 bits-step p k bits b e g =

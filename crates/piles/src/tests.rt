@@ -61,6 +61,21 @@ fn calls_are_refused_in_order() -> Result<(), Fail> {
 }
 
 #[test]
+fn there_are_at_most_thirty_two_cuts() -> Result<(), Fail> {
+    let mut pile = Cuts::new(Counter::new(5, 4));
+    let three = pair(1, 2).joined(StopSet::just(3));
+    for cut in 0..32 {
+        check_eq(number(pile.tighten(2, cut, three, 1)), 0)?;
+    }
+    check_eq(pile.credit(), -32)?;
+    check_eq(number(pile.tighten(2, 33, StopSet::just(0), -1)), 8)?;
+    check_eq(number(pile.tighten(2, 32, StopSet::just(0), -1)), 11)?;
+    check_eq(number(pile.set(2, 31, 1 << 30)), 0)?;
+    check_eq(number(pile.set(2, 31, -1)), 9)?;
+    check_eq(number(pile.set(2, 32, 1)), 8)
+}
+
+#[test]
 fn four_tiers_reach_and_five_do_not() -> Result<(), Fail> {
     let four = Ng::new(Cuts::new(Ng::new(Counter::new(5, 4))));
     check_eq(four.tiers(), 4)?;

@@ -1,15 +1,16 @@
-use mathlib.Core.Path.{sym, subst, _∙_}
+use mathlib.Core.Path.{subst, _∙_}
 use Prim.Native.Nat.{ℕ}
 use mir.Syntax.{w64}
 use mir.Val.{SFits}
 use Rattle.std.proofs.shelf.Signed.{toZ-ofZ}
-use Rattle.std.proofs.shelf.Tests.{eq-eqb, cond-true}
+use Rattle.tier.specs.Meaning.{lifted}
 use Rattle.tier.specs.Layers.{higher}
 use Rattle.tier.specs.Refusals.{Did}
 use Rattle.tier.proofs.Outcomes.{did-lifted}
 use Rattle.layer.specs.Layers.{layer-at}
 use Rattle.cuts.specs.Contents.{cuts-of}
 use Rattle.cuts.specs.Tables.{tighten-cut}
+use Rattle.cuts.proofs.Gives.{did-own}
 use Rattle.cuts.proofs.layer.CutsTier.tighten.Needs as need
 
 pub returns-then-tier-tiers : need.returns-then-tier-tiers
@@ -19,6 +20,7 @@ returns-then-tier-tiers g c =
     let cs = cuts-of (c .args .self .now .table) in
     let after = cuts-of (c .tighten .last .self) in
     let fits : SFits w64 (c .args .amount) = c .fits .amount in
-    let own = eq-eqb (c .args .tier) (higher (d .answers v .tiers)) (c .if-tier-tiers .taken ∙ c .tiers .ensures) in
+    let outcome = tighten-cut (d .answers v .stops) cs (c .args .index) (c .args .members .word) (c .args .amount) in
     let did = subst (λ (n : ℕ). Did (tighten-cut n cs (c .args .index) (c .args .members .word) (c .args .amount)) cs (c .tighten .result) after) (c .stops .ensures) (simp toZ-ofZ at (c .tighten .ensures)) in
-    subst (λ o. Did o (layer-at v cs) (c .tighten .result) (layer-at v after)) (sym (cond-true _ _ _ own)) (did-lifted (layer-at v) (tighten-cut (d .answers v .stops) cs (c .args .index) (c .args .members .word) (c .args .amount)) cs (c .tighten .result) after did)
+    did-own (higher (d .answers v .tiers)) (c .args .tier) (lifted (layer-at v) outcome) (lifted (λ w. layer-at w cs) (d .tightens v (c .args .tier) (c .args .index) (c .args .members .word) (c .args .amount))) (layer-at v cs) (c .tighten .result) (layer-at v after) (c .if-tier-tiers .taken ∙ c .tiers .ensures)
+    (did-lifted (layer-at v) outcome cs (c .tighten .result) after did)
