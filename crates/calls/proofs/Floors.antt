@@ -66,10 +66,10 @@ module _ {S : Type 0} (m : Answers S) (c : ℤ) (least : (r : List ℕ) (b : ℤ
 
 module _ {S : Type 0} (m : Answers S) (ground : List ℕ → Option ℤ) (pays : Plans-pay m ground) (vans : ℕ) where
   -- where no route is admitted, stop 1 is on none
-  no-plan : m .tiers ≤ most-tiers → 0 < m .stops → None-admitted m → (rs : List (List ℕ)) (cost : ℤ) → Plan (m .stops) ground vans rs cost → ⊥
-  no-plan few some none [] cost p = let e = p .once 1 (omega arith, some) in omega arith
-  no-plan few some none (r ∷ rs) cost p =
-      let y = pays few vans (r ∷ rs) cost p in
+  no-plan : m .tiers ≤ most-tiers → 0 < m .stops → None-admitted m → (any : ℕ) (rs : List (List ℕ)) (cost : ℤ) → Plan (m .stops) ground any rs cost → ⊥
+  no-plan few some none any [] cost p = let e = p .once 1 (omega arith, some) in omega arith
+  no-plan few some none any (r ∷ rs) cost p =
+      let y = pays few any (r ∷ rs) cost p in
       let b = and-then-some (reduced-cost m r) (λ x. plus x (total (reduced-cost m) rs)) (y .sum) (y .admitted) in
       none r (p .routes .0) (b .first, b .is)
 

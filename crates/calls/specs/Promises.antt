@@ -41,8 +41,8 @@ pub record Right-lowest {S : Type 0} (m : Answers S) (ground : List ℕ → Opti
 pub record Right-no-route {S : Type 0} (m : Answers S) (ground : List ℕ → Option ℤ) (vans : ℕ) : Type 0 where
   -- none is admitted
   pub none-admitted : None-admitted m
-  -- and there is no plan
-  pub no-plan : (rs : List (List ℕ)) (c : ℤ) → Plan (m .stops) ground vans rs c → ⊥
+  -- and there is no plan, whatever the number of vans
+  pub no-plan : (any : ℕ) (rs : List (List ℕ)) (c : ℤ) → Plan (m .stops) ground any rs c → ⊥
 
 -- An answer is right. Of the prices that are not refused, "no route" is answered exactly when none is admitted.
 abbrev pub Right : {S : Type 0} → Answers S → (List ℕ → Option ℤ) → ℕ → Answer → Type 0

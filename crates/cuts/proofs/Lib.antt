@@ -8,3 +8,4 @@ pub mod Arrays
 pub mod Gives
 pub mod Loops
 pub mod Credits
+pub mod Threes

@@ -1,7 +1,7 @@
 //! Limited-memory subset-row cuts, as a layer over any tier.
 //!
-//! A cut has three stops, and a bit in the state. A route that visits two of the stops, with the
-//! bit kept by the cut's memory in between, is charged the cut's penalty.
+//! A cut has three stops, and a bit in the state. Each second visit to one of its stops, with the bit
+//! kept by the cut's memory in between, is charged the cut's penalty.
 mod asks;
 mod bits;
 mod calls;

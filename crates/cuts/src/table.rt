@@ -3,7 +3,7 @@ ghost use mathlib.Core.Path.{_≡_};
 ghost use Prim.Native.Nat.{_≤_};
 ghost use lib.ListN.{length};
 ghost use Rattle.cuts.specs.Cuts.{most-cuts};
-ghost use Rattle.cuts.specs.Tables.{Few-stops, Cheap, Kept-at-stops};
+ghost use Rattle.cuts.specs.Tables.{Three-stops, Few-stops, Cheap, Kept-at-stops};
 use super::cut::Cut;
 
 /// The most cuts there can be.
@@ -15,6 +15,7 @@ pub struct CutTable {
     pub(crate) cuts: [Cut; MOST_CUTS],
     pub(crate) count: usize,
     ghost few: { count ≤ most-cuts },
+    ghost three: { Three-stops count cuts },
     // a law does not know the length of an array
     ghost full: { length cuts ≡ most-cuts },
     ghost sparse: { Few-stops cuts },

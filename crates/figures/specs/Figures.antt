@@ -75,6 +75,24 @@ bit = with-bit no-bits 0
 
 -- THE FIGURES
 
+abbrev pub figures : WorkedFigures
+figures = record {
+  arrives = 8;
+  waits = 9;
+  «in_time» = 10;
+  late = 11;
+  full = 10;
+  over = 11;
+  forgets = just 1;
+  remembers = both;
+  penalty = 5;
+  «used_up» = 0;
+  filled = 40;
+  «too_far» = 4;
+}
+
+-- the definitions give them
+
 pub record Worked (f : WorkedFigures) : Type 0 where
   -- Round, at minute 5, with a leg of 3: an arrival in the window from 0, and a wait for the one from 9
   pub arrives : round.drives (road (window 0 20) 3) (round.state 5 0) 1 2 ≡ Ok (round.state (f .arrives) 0)
@@ -90,14 +108,16 @@ pub record Worked (f : WorkedFigures) : Type 0 where
   pub remembers : ng-own (near both) .step 1 (just 2) ≡ Some (f .remembers, 0)
   -- what is remembered cannot be reached
   pub barred : ng-own (near both) .step 2 both ≡ None
-  -- a cut at 1, 2 and 3 is charged at the second of them; a visit to 4 in between clears it, unless 4 is in its memory
+  -- a cut at 1, 2 and 3 is charged at each second visit to one of them; 4 in between clears its bit, unless 4 is in its
+  -- memory
   pub second-visit : adds (cut three) (1 ∷ 2 ∷ 3 ∷ []) ≡ 0 ∷ f .penalty ∷ 0 ∷ []
   pub cleared : adds (cut three) (1 ∷ 4 ∷ 2 ∷ []) ≡ 0 ∷ 0 ∷ 0 ∷ []
   pub kept : adds (cut four) (1 ∷ 4 ∷ 2 ∷ []) ≡ 0 ∷ 0 ∷ f .penalty ∷ []
-  -- from bit 1 to bit 0 the gap is the penalty, the other way there is none
+  -- from bit 1 to bit 0 the gap is the penalty, the other way it is 0
   pub behind : gap-between (cut three) bit no-bits ≡ f .penalty
   pub ahead : gap-between (cut three) no-bits bit ≡ 0
   -- Town, with 3 units of 40: a leg of 3 leaves none, or a full battery at a charger; a leg of 4 is barred
   pub used-up : town.drives (road (charging false) 3) (town.state 3 0) 1 2 ≡ Ok (town.state (f .«used_up») 1)
   pub filled : town.drives (road (charging true) 3) (town.state 3 0) 1 2 ≡ Ok (town.state (f .filled) 1)
   pub too-far : town.drives (road (charging false) 4) (town.state 3 0) 1 2 ≡ Err (TooFar (f .«too_far») 3)
+  pub too-far-to-fill : town.drives (road (charging true) 4) (town.state 3 0) 1 2 ≡ Err (TooFar (f .«too_far») 3)

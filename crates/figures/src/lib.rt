@@ -2,7 +2,8 @@
 mod worked;
 
 pub use worked::WorkedFigures;
-ghost use Rattle.figures.specs.Figures.{Worked};
+ghost use mathlib.Core.Path.{_≡_};
+ghost use Rattle.figures.specs.Figures.{figures, Worked};
 
 #[cfg(test)]
 mod rounds;
@@ -11,7 +12,8 @@ mod towns;
 
 /// The figures, of the definitions.
 pub fn worked_figures() -> WorkedFigures
-    ensures { λ r. ⌜ Worked r ⌝ }
+    ensures numbers { λ r. ⌜ r ≡ figures ⌝ }
+    ensures shown { λ r. ⌜ Worked r ⌝ }
 {
     WorkedFigures {
         arrives: 8,

@@ -6,7 +6,7 @@ pub struct WorkedFigures {
     pub arrives: u16,
     /// the minute after a wait for the window
     pub waits: u16,
-    /// the minute of an arrival just before the close
+    /// the minute of an arrival at the very close
     pub in_time: u16,
     /// the minute that is too late
     pub late: u32,

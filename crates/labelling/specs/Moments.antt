@@ -1,4 +1,4 @@
--- What holds at every moment of a run, also while labels wait: no admitted route is lost from view.
+-- What holds between any two turns of a run, also while labels wait: no admitted route is lost from view.
 use mathlib.Core.Path.{_≡_}
 use mathlib.Core.Bool.{Bool}
 use mathlib.Core.List.{List, [], _∷_, _++_}

@@ -7,7 +7,8 @@ ghost use Rattle.labelling.specs.Moments.{Every-moment};
 ghost use Rattle.labelling.specs.Lowest.{Ends, Stays-treated, Covers-no-treated, Counts-add-up, Finds-lowest, Stays-small};
 ghost use Rattle.tier.specs.Laws.{last-key};
 
-/// The route that labelling finds has at most this many stops.
+/// The route that labelling finds has at most this many stops, up to four tiers and by the laws of
+/// sizes and keys.
 pub fn row_length<S>() -> usize
     ensures length { λ r. ⌜ r ≡ last-key ⌝ }
     ensures moments { λ _. ⌜ Every-moment S ⌝ }

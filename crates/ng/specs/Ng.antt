@@ -40,8 +40,8 @@ first-near = alone-to most-places
 abbrev pub recall : ℕ → ℕ → ℕ → ℕ
 recall near j memory = joined (common memory near) (just j)
 
--- A state remembers stops, at first none, and cannot reach a stop that it remembers. Who remembers no more is not
--- behind. Nothing is charged.
+-- A state remembers stops, at first none, and cannot reach a stop that it remembers. The gap is 0 if a's
+-- memory is a subset of b's, else absent. Nothing is charged.
 abbrev pub ng-own : List StopSet → Own ℕ
 ng-own near = record {
   first = empty-set;

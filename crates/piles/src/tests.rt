@@ -83,6 +83,8 @@ fn four_tiers_reach_and_five_do_not() -> Result<(), Fail> {
     let mut five = Cuts::new(four);
     check_eq(five.tiers(), 5)?;
     check_eq(replay(&five, &[1, 2]), None)?;
+    check_eq(five.finish(five.start(), 1), None)?;
+    check_eq(five.gap(five.start(), five.start()), Some(0))?;
     let three = pair(1, 2).joined(StopSet::just(3));
     check_eq(number(five.tighten(5, 0, three, 5)), 0)?;
     check_eq(number(five.tighten(5, 0, StopSet::just(4), 0)), 0)?;
@@ -97,4 +99,11 @@ fn six_tiers_are_held_at_five() -> Result<(), Fail> {
     check_eq(number(six.tighten(5, 1, StopSet::just(2), 0)), 0)?;
     check_eq(number(six.tighten(6, 1, StopSet::just(2), 0)), 6)?;
     check_eq(replay(&six, &[1]), None)
+}
+
+#[test]
+fn the_topmost_layer_takes_the_fifth_tier() -> Result<(), Fail> {
+    let fifth = Cuts::new(Ng::new(Ng::new(Ng::new(Counter::new(5, 4)))));
+    let mut six = Ng::new(fifth);
+    check_eq(number(six.set(5, 0, 1)), 7)
 }

@@ -1,3 +1,5 @@
 pub mod TwoVisits
+pub mod ThreeVisits
+pub mod CutVisits
 pub mod Penalty
 pub mod Told

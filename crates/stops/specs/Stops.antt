@@ -12,6 +12,10 @@ most-stops = 60
 abbrev pub most-places : ℕ
 most-places = most-stops + 1
 
+-- the greatest number that a set can have for a member
+abbrev pub most-member : ℕ
+most-member = 63
+
 -- j is one of the stops 1 to n
 abbrev pub Stop : ℕ → ℕ → Type 0
 Stop n j = (0 < j) × (j ≤ n)

@@ -1,17 +1,18 @@
 use mathlib.Core.Path.{_≡_, sym, ap, _∙_}
 use mathlib.Core.Bool.{true, false}
 use mathlib.Core.List.{[], _∷_, _++_}
-use Prim.Native.Nat.{_+_}
+use Prim.Native.Nat.{_+_, _<_, _^_}
 use native.Mathlib.Omega.{arith}
 use mir.Syntax.{w64}
 use mir.Val.{SFits, toZ, ofZ}
-use lib.ListN.{set, take}
+use lib.ListN.{length, set, take}
 use Rattle.std.proofs.shelf.Lists.{take-more-set}
 use Rattle.std.proofs.shelf.Signed.{toZ-ofZ}
 use Rattle.tier.specs.declared.refusal.Refusal.the-variants.{BadAmount, BadMembers, TableFull}
 use Rattle.cuts.specs.Contents.{cuts-of}
 use Rattle.cuts.specs.Tables.{in-range, new-cut, tighten-new}
 use Rattle.cuts.proofs.Tables.{good-new}
+use Rattle.cuts.proofs.Threes.{three-add, three-counted}
 use Rattle.cuts.proofs.Arrays.{cut-put, length-of}
 use Rattle.cuts.proofs.Gives.{did-refused, did-taken, new-full, new-bad-members, new-bad-amount, new-taken}
 use Rattle.cuts.proofs.table.CutTable.add.Needs as need
@@ -48,7 +49,11 @@ ghost-self c =
     let amount = toZ w64 (ofZ w64 (c .args .amount)) in
     let members = c .args .members .word in
     let good = good-new (c .args .stops) members amount (sym (c .if-not-are-three .ensures tt)) (sym (c .if-not-is-penalty .ensures tt)) in
-    (omega (arith, c .if-self-eq-MOST-CUTS .left), cut-put t (t .count) (new-cut members amount) good)
+    let full = t .full in
+    let room : t .count < length (t .cuts) = omega (arith, c .if-self-eq-MOST-CUTS .left) in
+    let wide : members < 2 ^ 64 = omega arith in
+    let three = three-counted (c .args .stops) members wide (sym (c .if-not-are-three .ensures tt)) in
+    (omega (arith, c .if-self-eq-MOST-CUTS .left), (three-add (t .count) (t .cuts) (new-cut members amount) room three (t .three), cut-put t (t .count) (new-cut members amount) good))
 
 pub returns : need.returns
 returns c =

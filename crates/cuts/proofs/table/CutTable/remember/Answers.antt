@@ -9,6 +9,7 @@ use Rattle.cuts.specs.Contents.{cuts-of}
 use Rattle.cuts.specs.Tables.{remember, tighten-old}
 use Rattle.cuts.proofs.Tables.{Good-cut, good-remember}
 use Rattle.cuts.proofs.Arrays.{table-cut, cut-put, cut-changed}
+use Rattle.cuts.proofs.Threes.{three-put}
 use Rattle.cuts.proofs.Gives.{did-taken, old-taken}
 use Rattle.cuts.proofs.table.CutTable.remember.Needs as need
 
@@ -18,7 +19,7 @@ ghost-self c =
     let i = c .args .index in
     let grown = good-remember (cut-at (t .cuts) i) (c .args .members .word) (table-cut t i) in
     let good = subst (λ (x : Cut). Good-cut x) (sym (c .remembering .ensures)) grown in
-    (t .few, cut-put t i (c .remembering .result) good)
+    (t .few, (three-put (t .count) (t .cuts) i (c .remembering .result) (ap (λ (x : Cut). x .stops .word) (c .remembering .ensures)) (t .three), cut-put t i (c .remembering .result) good))
 
 pub returns : need.returns
 returns c =

@@ -1,4 +1,4 @@
-use mathlib.Core.Path.{_≡_, sym, ap, _∙_}
+use mathlib.Core.Path.{_≡_, refl, sym, ap, _∙_}
 use mathlib.Core.Bool.{true, false}
 use native.Mathlib.Omega.{arith}
 use mir.Syntax.{w64}
@@ -10,6 +10,7 @@ use Rattle.cuts.specs.Cuts.{cut-at}
 use Rattle.cuts.specs.Contents.{cuts-of}
 use Rattle.cuts.specs.Tables.{in-range, reprice, set-penalty}
 use Rattle.cuts.proofs.Tables.{good-reprice}
+use Rattle.cuts.proofs.Threes.{three-put}
 use Rattle.cuts.proofs.Arrays.{table-cut, cut-put, length-of, cut-changed}
 use Rattle.cuts.proofs.Gives.{did-refused, did-taken, set-no-index, set-bad-amount, set-taken}
 use Rattle.cuts.proofs.table.CutTable.set_penalty.Needs as need
@@ -35,7 +36,7 @@ ghost-self c =
     let t = c .args .self .now in
     let amount = toZ w64 (ofZ w64 (c .args .amount)) in
     let i = c .args .index in
-    (t .few, cut-put t i (reprice (cut-at (t .cuts) i) amount) (good-reprice (cut-at (t .cuts) i) amount (table-cut t i) (sym (c .if-not-is-penalty .ensures tt))))
+    (t .few, (three-put (t .count) (t .cuts) i (reprice (cut-at (t .cuts) i) amount) refl (t .three), cut-put t i (reprice (cut-at (t .cuts) i) amount) (good-reprice (cut-at (t .cuts) i) amount (table-cut t i) (sym (c .if-not-is-penalty .ensures tt)))))
 
 pub returns : need.returns
 returns c =
