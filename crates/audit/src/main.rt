@@ -1,7 +1,7 @@
 //! Audits routes: prints, leg by leg, what a planner can check by hand. Money is in mils.
 mod pile_sheet;
-mod route;
 mod rounds;
+mod route;
 mod sheet;
 mod town_sheet;
 
@@ -76,7 +76,12 @@ fn set_duals(round: &mut Round, duals: [i64; 2]) -> Result<(), Refusal> {
     round.set(1, 2, duals[1])
 }
 
-fn audit(rt: &LibcRuntime, title: &str, book: Result<Book, OutOfRange>, duals: [i64; 2]) -> Result<(), AnyError> {
+fn audit(
+    rt: &LibcRuntime,
+    title: &str,
+    book: Result<Book, OutOfRange>,
+    duals: [i64; 2],
+) -> Result<(), AnyError> {
     let Ok(book) = book else {
         return Err("a number of the book is out of range".into());
     };
@@ -99,7 +104,10 @@ fn audit_town(rt: &LibcRuntime) -> Result<(), AnyError> {
     let Ok(book) = two_visits(10) else {
         return Err("a number of the book is out of range".into());
     };
-    println!(rt, "The two visits over Town: battery 9, a charger at stop 2, at most 2 stops")?;
+    println!(
+        rt,
+        "The two visits over Town: battery 9, a charger at stop 2, at most 2 stops"
+    )?;
     let town = Town::new(book);
     print_town_sheet(rt, &town, &[1, 2])?;
     print_town_sheet(rt, &town, &[2, 1])?;
@@ -110,7 +118,9 @@ fn audit_town(rt: &LibcRuntime) -> Result<(), AnyError> {
 }
 
 fn add_cut(pile: &mut Pile) -> Result<(), Refusal> {
-    let three = StopSet::just(1).joined(StopSet::just(2)).joined(StopSet::just(3));
+    let three = StopSet::just(1)
+        .joined(StopSet::just(2))
+        .joined(StopSet::just(3));
     pile.tighten(3, 0, three, 5)
 }
 
@@ -119,7 +129,10 @@ fn audit_pile(rt: &LibcRuntime) -> Result<(), AnyError> {
     let Ok(book) = four_visits() else {
         return Err("a number of the book is out of range".into());
     };
-    println!(rt, "Four visits over Round with ng and cuts: legs of cost 2 and one minute")?;
+    println!(
+        rt,
+        "Four visits over Round with ng and cuts: legs of cost 2 and one minute"
+    )?;
     let mut pile = Cuts::new(Ng::new(Round::new(book)));
     println!(rt, "  each stop alone in its neighbourhood, no cut")?;
     print_pile_sheet(rt, &pile, &[1, 2, 1])?;
@@ -144,7 +157,12 @@ fn audit_pile(rt: &LibcRuntime) -> Result<(), AnyError> {
 
 fn main(rt: LibcRuntime) -> Result<(), AnyError> {
     audit(&rt, "Two visits", two_visits(10), [0, 0])?;
-    audit(&rt, "Two visits that are worth their duals", two_visits(10), [16, 18])?;
+    audit(
+        &rt,
+        "Two visits that are worth their duals",
+        two_visits(10),
+        [16, 18],
+    )?;
     audit(&rt, "Stop 1 closes at minute 8", early_close(), [16, 18])?;
     audit(&rt, "Vans that carry 4", two_visits(4), [16, 18])?;
     audit_town(&rt)?;

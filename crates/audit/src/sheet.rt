@@ -39,8 +39,14 @@ pub(crate) fn cheaper_of(first: Option<i64>, second: Option<i64>) -> Cheapest
 fn print_barred(rt: &LibcRuntime, barred: Barred) -> io::Result<()> {
     match barred {
         Barred::NoLeg => println!(rt, "barred: there is no such leg"),
-        Barred::TooLate(arrival, closes) => println!(rt, "barred: arrives at {arrival}, the window closes at {closes}"),
-        Barred::TooHeavy(load, capacity) => println!(rt, "barred: the load would be {load}, the van carries {capacity}"),
+        Barred::TooLate(arrival, closes) => println!(
+            rt,
+            "barred: arrives at {arrival}, the window closes at {closes}"
+        ),
+        Barred::TooHeavy(load, capacity) => println!(
+            rt,
+            "barred: the load would be {load}, the van carries {capacity}"
+        ),
     }
 }
 
@@ -73,7 +79,11 @@ fn print_legs(rt: &LibcRuntime, round: &Round, route: &[usize]) -> io::Result<()
 }
 
 /// Prints the work sheet of a route, and answers its reduced cost if it is admitted.
-pub(crate) fn print_sheet(rt: &LibcRuntime, round: &Round, route: &[usize]) -> io::Result<Option<i64>> {
+pub(crate) fn print_sheet(
+    rt: &LibcRuntime,
+    round: &Round,
+    route: &[usize],
+) -> io::Result<Option<i64>> {
     print_route(rt, route)?;
     print_legs(rt, round, route)?;
     let cost = replay(round, route);

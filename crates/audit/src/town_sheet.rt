@@ -11,8 +11,14 @@ use town::TownTier;
 fn print_barred(rt: &LibcRuntime, barred: Barred) -> io::Result<()> {
     match barred {
         Barred::NoLeg => println!(rt, "barred: there is no such leg"),
-        Barred::TooFar(minutes, charge) => println!(rt, "barred: the leg uses {minutes}, {charge} are left"),
-        Barred::TooMany(made, most) => println!(rt, "barred: it would make {made} stops, {most} are allowed"),
+        Barred::TooFar(minutes, charge) => println!(
+            rt,
+            "barred: the leg uses {minutes}, {charge} are left"
+        ),
+        Barred::TooMany(made, most) => println!(
+            rt,
+            "barred: it would make {made} stops, {most} are allowed"
+        ),
     }
 }
 

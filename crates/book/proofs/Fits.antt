@@ -114,7 +114,6 @@ taken-visit b j v e =
     let q = and-parts (leb 1 j) (leb j (b .stops)) (p .0) in
     record { stop = (leb-true _ _ (q .0), leb-true _ _ (q .1)); fits = p .1 }
 
-
 pub takes-outside : (b : Contents) (i j : ℕ) (l : Leg) → (b .stops < i) ⊎ (b .stops < j) → false ≡ can-put-leg b i j l
 takes-outside b i j l o = sym (by (leb i (b .stops)) (leb j (b .stops)) refl refl)
   where

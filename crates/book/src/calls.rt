@@ -23,9 +23,17 @@ use stops::MOST_STOPS;
 #[derive(Clone, Copy)]
 pub struct OutOfRange;
 
-const BLANK_VISIT: Visit = Visit { opens: 0, closes: 0, load: 0, charger: false };
+const BLANK_VISIT: Visit = Visit {
+    opens: 0,
+    closes: 0,
+    load: 0,
+    charger: false,
+};
 
-const BLANK_LEG: Leg = Leg { cost: 0, minutes: 1 };
+const BLANK_LEG: Leg = Leg {
+    cost: 0,
+    minutes: 1,
+};
 
 // Whether the numbers of a deck's first line are in their ranges.
 fn fits_fleet(stops: usize, fleet: Fleet) -> bool
@@ -77,7 +85,15 @@ impl Book {
     pub fn empty() -> Book
         ensures { λ r. ⌜ contents r ≡ empty-book ⌝ }
     {
-        unsaid(0, Fleet { vans: 0, capacity: 0, battery: 0, most: 0 })
+        unsaid(
+            0,
+            Fleet {
+                vans: 0,
+                capacity: 0,
+                battery: 0,
+                most: 0,
+            },
+        )
     }
 
     /// A book of this many stops, of which nothing is said yet: until a visit or a leg is put, the
@@ -121,7 +137,10 @@ impl Book {
             return None;
         }
         if from == to {
-            return Some(Leg { cost: 0, minutes: 0 });
+            return Some(Leg {
+                cost: 0,
+                minutes: 0,
+            });
         }
         Some(self.legs[from * MOST_PLACES + to])
     }

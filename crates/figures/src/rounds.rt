@@ -14,20 +14,43 @@ use tier::replay;
 
 // Two stops; from the first to the second it is this far, and the second asks for this.
 fn round_with(visit: Visit, minutes: u16) -> Result<Round, OutOfRange> {
-    let fleet = Fleet { vans: 1, capacity: 10, battery: 40, most: 4 };
+    let fleet = Fleet {
+        vans: 1,
+        capacity: 10,
+        battery: 40,
+        most: 4,
+    };
     let mut book = Book::new(2, fleet)?;
-    book.put_visit(1, Visit { opens: 0, closes: 20, load: 2, charger: false })?;
+    book.put_visit(
+        1,
+        Visit {
+            opens: 0,
+            closes: 20,
+            load: 2,
+            charger: false,
+        },
+    )?;
     book.put_visit(2, visit)?;
     book.put_leg(1, 2, Leg { cost: 4, minutes })?;
     Ok(Round::new(book))
 }
 
 fn window(opens: u16, closes: u16) -> Visit {
-    Visit { opens, closes, load: 0, charger: false }
+    Visit {
+        opens,
+        closes,
+        load: 0,
+        charger: false,
+    }
 }
 
 fn heavy(load: u16) -> Visit {
-    Visit { opens: 0, closes: 20, load, charger: false }
+    Visit {
+        opens: 0,
+        closes: 20,
+        load,
+        charger: false,
+    }
 }
 
 #[derive(Clone, Copy, PartialEq, Debug)]
@@ -53,19 +76,31 @@ fn at_second(round: Result<Round, OutOfRange>, minute: u16, load: u16) -> Second
 
 #[test]
 fn waits_for_the_window() -> Result<(), Fail> {
-    check_eq(at_second(round_with(window(0, 20), 3), 5, 0), Second::Reached(8, 0))?;
-    check_eq(at_second(round_with(window(9, 20), 3), 5, 0), Second::Reached(9, 0))
+    check_eq(
+        at_second(round_with(window(0, 20), 3), 5, 0),
+        Second::Reached(8, 0),
+    )?;
+    check_eq(
+        at_second(round_with(window(9, 20), 3), 5, 0),
+        Second::Reached(9, 0),
+    )
 }
 
 #[test]
 fn arrives_by_the_close() -> Result<(), Fail> {
-    check_eq(at_second(round_with(window(0, 10), 2), 8, 0), Second::Reached(10, 0))?;
+    check_eq(
+        at_second(round_with(window(0, 10), 2), 8, 0),
+        Second::Reached(10, 0),
+    )?;
     check_eq(at_second(round_with(window(0, 10), 3), 8, 0), Second::Late)
 }
 
 #[test]
 fn carries_the_capacity() -> Result<(), Fail> {
-    check_eq(at_second(round_with(heavy(2), 3), 5, 8), Second::Reached(8, 10))?;
+    check_eq(
+        at_second(round_with(heavy(2), 3), 5, 8),
+        Second::Reached(8, 10),
+    )?;
     check_eq(at_second(round_with(heavy(3), 3), 5, 8), Second::Heavy)
 }
 

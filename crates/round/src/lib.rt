@@ -118,7 +118,13 @@ pub impl Tier for Round as RoundTier {
         self.duals.set(tier, index, amount)
     }
 
-    fn tighten(&mut self, tier: usize, index: usize, members: StopSet, amount: i64) -> Result<(), Refusal> {
+    fn tighten(
+        &mut self,
+        tier: usize,
+        index: usize,
+        members: StopSet,
+        amount: i64,
+    ) -> Result<(), Refusal> {
         Err(refused_tighten(tier))
     }
 }

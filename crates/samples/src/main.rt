@@ -49,7 +49,11 @@ fn main(rt: LibcRuntime) -> io::Result<()> {
     print_told(&rt, "Two visits, vans that carry 1", too_heavy())?;
     print_told(&rt, "Three visits with ties, seven places", with_ties())?;
     print_told(&rt, "Round, ng and a cut", with_a_cut())?;
-    print_told(&rt, "The same, costs compared without the gap", with_a_cut_without_gaps())?;
+    print_told(
+        &rt,
+        "The same, costs compared without the gap",
+        with_a_cut_without_gaps(),
+    )?;
     print_told(&rt, "A detour with a penalty", with_gaps())?;
     print_told(&rt, "The same without the gap", without_gaps())
 }

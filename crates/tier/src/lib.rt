@@ -84,6 +84,12 @@ pub trait Tier {
 
     /// Adds `members` to what the tier at that height remembers at `index`, or makes something new
     /// there; a refusal leaves the tier as it was.
-    fn tighten(&mut self, tier: usize, index: usize, members: StopSet, amount: i64) -> Result<(), Refusal>
+    fn tighten(
+        &mut self,
+        tier: usize,
+        index: usize,
+        members: StopSet,
+        amount: i64,
+    ) -> Result<(), Refusal>
         ensures { λ r. ⌜ Did (meaning .tightens (value (now (self .entry))) tier index (members .word) amount) (value (now (self .entry))) r (value (now (self .exit))) ⌝ };
 }

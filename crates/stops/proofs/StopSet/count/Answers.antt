@@ -29,8 +29,8 @@ loop-stop-again c =
     let w = c .args .self .word in
     let k = c .loop-stop .stop in
     elim (c .if-has .came) [
-      then-has w′ ↦ further w k (c .loop-stop .members) (c .if-has .members) true (c .loop-stop .kept .stop) (c .loop-stop .inv) (sym (c .has .ensures) ∙ w′ .if-has .taken) (w′ .members-is)
-    | else-has w′ ↦ further w k (c .loop-stop .members) (c .if-has .members) false (c .loop-stop .kept .stop) (c .loop-stop .inv) (sym (c .has .ensures) ∙ w′ .if-has .left) (omega (arith, w′ .members-is))
+      | then-has w′ ↦ further w k (c .loop-stop .members) (c .if-has .members) true (c .loop-stop .kept .stop) (c .loop-stop .inv) (sym (c .has .ensures) ∙ w′ .if-has .taken) (w′ .members-is)
+      | else-has w′ ↦ further w k (c .loop-stop .members) (c .if-has .members) false (c .loop-stop .kept .stop) (c .loop-stop .inv) (sym (c .has .ensures) ∙ w′ .if-has .left) (omega (arith, w′ .members-is))
     ]
 
 -- there is no member past 63
