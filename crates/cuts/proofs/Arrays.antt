@@ -1,10 +1,14 @@
 -- The array of a table and the list of its cuts. Assumes nothing.
 use mathlib.Core.Path.{_≡_, refl, sym, ap, _∙_}
+use mathlib.Core.Bool.{false}
+use mathlib.Core.Logic.{⊎-elim}
 use mathlib.Core.List.{List, [], _∷_}
 use Prim.Native.Nat.{ℕ, zero, suc, _<_, _≤_}
 use native.Mathlib.Omega.{arith}
+use lib.Dec.{eqb}
 use lib.ListN.{length, set, take}
 use Rattle.std.proofs.shelf.Lists.{getD-take, length-set, length-take-le}
+use Rattle.std.proofs.shelf.Tests.{eqb-false, cases-lt}
 use Rattle.stops.proofs.Lists.{each-set}
 use Rattle.cuts.specs.declared.cut.Cut.{Cut}
 use Rattle.cuts.specs.declared.table.CutTable.{CutTable}
@@ -34,6 +38,9 @@ first-cuts P (suc n) (x ∷ xs) (suc k) h b = first-cuts P n xs k (λ i. h (suc 
 
 pub length-of : (t : CutTable) → length (cuts-of t) ≡ t .count
 length-of t = let few = t .few in let full = t .full in length-take-le (t .count) (t .cuts) (omega arith)
+
+pub has-room : (t : CutTable) → eqb (t .count) 32 ≡ false → t .count < 32
+has-room t e = let few = t .few in ⊎-elim (λ l. l) (λ l. absurd (eqb-false (t .count) 32 e (omega arith))) (cases-lt (t .count) 32)
 
 short : (n : ℕ) (xs : List Cut) → length (take n xs) ≤ n
 short zero xs = omega arith

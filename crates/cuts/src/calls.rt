@@ -2,6 +2,7 @@
 ghost use mathlib.Core.List.{[]};
 ghost use mathlib.Core.Path.{_≡_};
 ghost use Prim.Native.Nat.{_<_};
+ghost use lib.Dec.{eqb};
 ghost use lib.ListN.{replicate};
 ghost use Rattle.tier.specs.Refusals.{Did};
 ghost use Rattle.cuts.specs.Contents.{cuts-of};
@@ -93,6 +94,13 @@ impl CutTable {
         }
     }
 
+    // Whether there is no place for another cut.
+    fn is_full(&self) -> bool
+        ensures { λ r. ⌜ r ≡ eqb (now (self .entry) .count) most-cuts ⌝ }
+    {
+        self.count == MOST_CUTS
+    }
+
     // Adds to the memory of a cut.
     fn remember(
         &mut self,
@@ -118,7 +126,7 @@ impl CutTable {
     fn add(&mut self, stops: usize, members: StopSet, amount: i64) -> Result<(), Refusal>
         ensures { λ r. ⌜ Did (tighten-new stops (cuts-of (now (self .entry))) (members .word) amount) (cuts-of (now (self .entry))) r (cuts-of (now (self .exit))) ⌝ }
     {
-        if self.count == MOST_CUTS {
+        if self.is_full() {
             return Err(Refusal::TableFull);
         }
         if !are_three(stops, members) {
