@@ -1,4 +1,6 @@
 //! Audits routes: prints, leg by leg, what a planner can check by hand. Money is in mils.
+#![tactic(auto)]
+
 mod pile_sheet;
 mod rounds;
 mod route;

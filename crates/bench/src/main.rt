@@ -1,5 +1,7 @@
 //! Prices rounds of 25, 40 and 60 stops, with ng neighbourhoods of 8 and with 0, 8 and 32 cuts, and
 //! prints the counts; given the word `time`, the milliseconds too.
+#![tactic(auto)]
+
 mod rounds;
 
 use anyhow::anyhow;

@@ -1,4 +1,6 @@
 //! The book: stops with windows, loads and chargers, the fleet, and the table of legs.
+#![tactic(auto)]
+
 mod book;
 mod calls;
 mod limits;

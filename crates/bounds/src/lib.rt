@@ -1,5 +1,7 @@
 //! The third layer of reading: ranges and order. Numbers are in their ranges and in their order, and lines
 //! follow one another in theirs.
+#![tactic(auto)]
+
 mod fault;
 mod items;
 mod lines;

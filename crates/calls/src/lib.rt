@@ -2,6 +2,8 @@
 //!
 //! `specs/Calls.antt` says what each call answers and leaves, `specs/Promises.antt` what is
 //! promised of the answers, whatever the calls.
+#![tactic(auto)]
+
 ghost use Rattle.std.specs.Prelude.{◌≡◌};
 ghost use Rattle.calls.specs.Calls.{early_refusal};
 ghost use Rattle.calls.specs.Promises.{Promises};

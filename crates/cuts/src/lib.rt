@@ -2,6 +2,8 @@
 //!
 //! A cut has three stops, and a bit in the state. Each second visit to one of its stops, with the bit
 //! kept by the cut's memory in between, is charged the cut's penalty.
+#![tactic(auto)]
+
 mod asks;
 mod bits;
 mod calls;

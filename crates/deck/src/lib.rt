@@ -1,4 +1,6 @@
 //! Reading a deck into a book. A deck is the text of a book: one form a line, nested in brackets.
+#![tactic(auto)]
+
 mod first_line;
 mod items;
 mod leg_lines;

@@ -1,5 +1,7 @@
 //! Reads decks from the files that it is given: says of each how many stops it has, how many bytes were
 //! read and whether its book is written as these bytes again; or its fault.
+#![tactic(auto)]
+
 use book::Book;
 use bounds::{BookFault, Layer};
 use deck::read_deck;

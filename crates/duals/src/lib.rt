@@ -2,6 +2,8 @@
 //!
 //! A bottom's reach charges the cost of a leg less the dual of the stop reached; its credit is the
 //! sum of the duals; set changes one of them.
+#![tactic(auto)]
+
 mod table;
 
 ghost use Rattle.std.specs.Prelude.{◌≡◌, ◌≤◌, min, pos, ◌-ℤ◌};

@@ -1,4 +1,6 @@
 //! The worked figures: small examples that a planner can check by hand.
+#![tactic(auto)]
+
 mod worked;
 
 ghost use Rattle.std.specs.Prelude.{◌≡◌};

@@ -1,4 +1,6 @@
 //! The forms of a line: which token is due.
+#![tactic(auto)]
+
 mod due;
 mod fault;
 

@@ -2,6 +2,8 @@
 //!
 //! The definition is `specs/Labelling.antt`; what is proved of it is in `specs/Moments.antt` and
 //! `specs/Lowest.antt`, and stands on the contracts below for every kind of state.
+#![tactic(auto)]
+
 ghost use Rattle.std.specs.Prelude.{◌≡◌};
 ghost use Rattle.labelling.specs.Moments.{EveryMoment};
 ghost use Rattle.labelling.specs.Lowest.{Ends, StaysTreated, CoversNoTreated, CountsAddUp, FindsLowest, StaysSmall};

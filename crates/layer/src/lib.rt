@@ -1,4 +1,6 @@
 //! What all layers with an own part share: sums that stay within a word.
+#![tactic(auto)]
+
 ghost use Rattle.std.specs.Prelude.{◌≡◌};
 ghost use Rattle.layer.specs.Sums.{charge_sum, gap_sum};
 

@@ -2,6 +2,8 @@
 //!
 //! A state remembers some of the stops that it visited and cannot reach those again. On reaching a
 //! stop it forgets what is not in that stop's neighbourhood.
+#![tactic(auto)]
+
 ghost use Rattle.std.specs.Prelude.{◌≡◌, ◌<◌};
 ghost use Rattle.stops.specs.Stops.{most_places};
 ghost use Rattle.layer.specs.Layers.{layer_at};

@@ -1,4 +1,6 @@
 //! Writing into a lent slice: each printer gets the rest of it, from the filled length on.
+#![tactic(auto)]
+
 mod out;
 mod printers;
 

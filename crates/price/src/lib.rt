@@ -1,4 +1,6 @@
 //! Price: the route of lowest reduced cost over any pile, by dominance labelling in a lent store.
+#![tactic(auto)]
+
 mod answer;
 mod choices;
 mod covers;

@@ -1,4 +1,6 @@
 //! The Round bottom: time windows and loads.
+#![tactic(auto)]
+
 mod round;
 mod state;
 

@@ -1,4 +1,6 @@
 //! Sittings over several piles: lists of calls, and their answers as a planner reads them.
+#![tactic(auto)]
+
 mod instances;
 mod print;
 

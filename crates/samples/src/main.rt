@@ -1,5 +1,7 @@
 //! Prints what the definition of price gives on small cases. Nothing is priced here: each function
 //! answers a literal that is proved to be what the definition gives.
+#![tactic(auto)]
+
 mod prices;
 
 use prices::{

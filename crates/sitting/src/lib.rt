@@ -1,4 +1,6 @@
 //! A sitting: a pile with a number of vans, reached by set, tighten and price alone.
+#![tactic(auto)]
+
 mod calls;
 mod runs;
 

@@ -1,6 +1,8 @@
 //! Stops, and sets of them.
 //!
 //! Stops are numbered from 1 to n, and place 0 is the depot.
+#![tactic(auto)]
+
 ghost use Rattle.std.specs.Prelude.{◌≡◌, ◌+◌, ◌^◌, ltb, if◌then◌else◌, nat_lt};
 ghost use Rattle.stops.specs.Stops.{member, just, common, joined, within as «within_set», all_stops, count_to, empty_set};
 

@@ -1,4 +1,6 @@
 //! Tiers written by somebody outside: a bottom that only counts, and a layer that only passes on.
+#![tactic(auto)]
+
 mod counter;
 mod counts;
 mod through;

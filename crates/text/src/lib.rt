@@ -1,4 +1,6 @@
 //! The tokens of a text: each is a part of that text, with the offset of its first byte.
+#![tactic(auto)]
+
 mod cursor;
 mod digits;
 mod fault;

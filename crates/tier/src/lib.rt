@@ -2,6 +2,8 @@
 //!
 //! A tier is a resource model along a route. A bottom stands by itself; a layer stands on a tier
 //! and adds to its states; a pile is a bottom under layers.
+#![tactic(auto)]
+
 mod height;
 mod refusal;
 mod replays;

@@ -1,4 +1,6 @@
 //! The Town bottom: a battery, chargers and a limit on the stops made.
+#![tactic(auto)]
+
 mod barred;
 mod state;
 mod town;

@@ -1,4 +1,6 @@
 //! The words of the forms: of decks, and of the calls that follow a deck.
+#![tactic(auto)]
+
 mod spellings;
 mod vocabulary;
 

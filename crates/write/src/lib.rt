@@ -1,4 +1,6 @@
 //! Writing a book as its deck.
+#![tactic(auto)]
+
 mod first_line;
 mod items;
 mod leg_lines;

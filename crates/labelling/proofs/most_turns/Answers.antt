@@ -4,7 +4,7 @@ use Rattle.labelling.proofs.most_turns.Goals as goal
 
 pub returns : goal.returns
 returns g c = record {
-  turns = c.turns-in.ensures;
+  turns = c.turns_in.ensures;
   ends = λ m earlier places t a e. ends m earlier places t a e;
   treated = record {
     in_a_turn = λ m earlier places t u e. stays_in_a_turn m earlier places t u e;

@@ -1,8 +1,8 @@
 use Rattle.text.proofs.Reading.{steps, escapes}
 use Rattle.bounds.proofs.items.open_item.Goals as goal
 
-pub returns-in-err-open-nested : goal.returns-in-err-open-nested
-returns-in-err-open-nested c = escapes _ _ _ c.in-err-open-nested.ensures c.from-residual.ensures.1
+pub returns-in_err-open_nested : goal.returns-in_err-open_nested
+returns-in_err-open_nested c = escapes _ _ _ c.in_err-open_nested.ensures c.from_residual.ensures.1
 
 pub returns : goal.returns
-returns c = steps _ _ c.in-ok-open-nested.ensures c.due-item.ensures
+returns c = steps _ _ c.in_ok-open_nested.ensures c.due_item.ensures

@@ -1,14 +1,14 @@
 use Rattle.text.proofs.Reading.{steps, escapes, gives}
 use Rattle.deck.proofs.items.item_usize.Goals as goal
 
-pub returns-in-err-open-item : goal.returns-in-err-open-item
-returns-in-err-open-item c = escapes _ _ _ c.in-err-open-item.ensures c.from-residual.ensures.1
+pub returns-in_err-open_item : goal.returns-in_err-open_item
+returns-in_err-open_item c = escapes _ _ _ c.in_err-open_item.ensures c.from_residual.ensures.1
 
-pub returns-in-err-n : goal.returns-in-err-n
-returns-in-err-n c = steps _ _ c.in-ok-open-item.ensures (escapes _ _ _ c.in-err-n.ensures c.from-residual-in-err-n.ensures.1)
+pub returns-in_err-n : goal.returns-in_err-n
+returns-in_err-n c = steps _ _ c.in_ok-open_item.ensures (escapes _ _ _ c.in_err-n.ensures c.from_residual-in_err-n.ensures.1)
 
-pub returns-in-err-due-mark : goal.returns-in-err-due-mark
-returns-in-err-due-mark c = steps _ _ c.in-ok-open-item.ensures (steps _ _ c.in-ok-n.ensures (escapes _ _ _ c.in-err-due-mark.ensures c.from-residual-in-err-due-mark.ensures.1))
+pub returns-in_err-due_mark : goal.returns-in_err-due_mark
+returns-in_err-due_mark c = steps _ _ c.in_ok-open_item.ensures (steps _ _ c.in_ok-n.ensures (escapes _ _ _ c.in_err-due_mark.ensures c.from_residual-in_err-due_mark.ensures.1))
 
 pub returns : goal.returns
-returns c = steps _ _ c.in-ok-open-item.ensures (steps _ _ c.in-ok-n.ensures (steps _ _ c.in-ok-due-mark.ensures (gives)))
+returns c = steps _ _ c.in_ok-open_item.ensures (steps _ _ c.in_ok-n.ensures (steps _ _ c.in_ok-due_mark.ensures (gives)))

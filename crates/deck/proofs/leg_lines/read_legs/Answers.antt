@@ -12,27 +12,27 @@ loop-due-init c =
     let all : c.stops-stops.result + 1 - 0 ≡ suc c.args.book.now.stops = omega arith in
     (omega arith, sym known, λ g after r rest. rw all at rest)
 
-pub read-leg-line-requires : goal.read-leg-line-requires
-read-leg-line-requires c = let known = c.loop-due.invariant.1 in omega arith
+pub read_leg_line-requires : goal.read_leg_line-requires
+read_leg_line-requires c = let known = c.loop-due.invariant.1 in omega arith
 
 pub loop-due-preserved : goal.loop-due-preserved
 loop-due-preserved c =
     let inv = c.loop-due.invariant in
-    let line = c.in-ok-read-leg-line.ensures in (
+    let line = c.in_ok-read_leg_line.ensures in (
       omega arith,
       kept (contents c.loop-due.book) c.loop-due.due line ∙ inv.1,
       again leg_line (λ b i c. c) _ _ (contents c.loop-due.book) c.loop-due.due (c.stops-stops.result + 1 - c.loop-due.due) (c.stops-stops.result + 1 - (c.loop-due.due + 1)) (omega arith) inv.2 line refl,
     )
 
-pub returns-in-err-read-leg-line : goal.returns-in-err-read-leg-line
-returns-in-err-read-leg-line c =
-    faulty leg_line (λ b i c. c) _ _ (contents c.loop-due.book) c.loop-due.due (c.stops-stops.result + 1 - c.loop-due.due) (c.stops-stops.result - c.loop-due.due) _ _ (omega arith) c.loop-due.invariant.2 c.in-err-read-leg-line.ensures c.from-residual.ensures.1
+pub returns-in_err-read_leg_line : goal.returns-in_err-read_leg_line
+returns-in_err-read_leg_line c =
+    faulty leg_line (λ b i c. c) _ _ (contents c.loop-due.book) c.loop-due.due (c.stops-stops.result + 1 - c.loop-due.due) (c.stops-stops.result - c.loop-due.due) _ _ (omega arith) c.loop-due.invariant.2 c.in_err-read_leg_line.ensures c.from_residual.ensures.1
 
 pub returns : goal.returns
 returns c = whole leg_line (λ b i c. c) _ _ (contents c.loop-due.book) c.loop-due.due (c.stops-stops.result + 1 - c.loop-due.due) (omega arith) c.loop-due.invariant.2
 
-pub overflow-add-due : goal.overflow-add-due
-overflow-add-due c =
+pub overflow_add-due : goal.overflow_add-due
+overflow_add-due c =
     let few = stops_kept (contents c.loop-due.book) (in_ranges c.loop-due.book) in
     let known = c.loop-due.invariant.1 in
     omega arith

@@ -6,10 +6,10 @@ use Rattle.deck.specs.Lines.{leg_pair}
 use Rattle.deck.proofs.LegLoop.{taken, leg_keeps}
 use Rattle.deck.proofs.leg_lines.read_pairs.Goals as goal
 
-pub keep-leg-requires : goal.keep-leg-requires
-keep-leg-requires c =
+pub keep_leg-requires : goal.keep_leg-requires
+keep_leg-requires c =
     let known = c.stops-stops.ensures in
-    taken (contents c.loop-to.book) c.stops-stops.result c.args.from c.loop-to.to c.loop-to.invariant.1 (omega (arith, c.requires)) c.loop-to-test.true c.in-ok-leg.ensures
+    taken (contents c.loop-to.book) c.stops-stops.result c.args.from c.loop-to.to c.loop-to.invariant.1 (omega (arith, c.requires)) c.loop-to-test.true c.in_ok-leg.ensures
 
 pub loop-to-init : goal.loop-to-init
 loop-to-init c =
@@ -21,19 +21,19 @@ pub loop-to-preserved : goal.loop-to-preserved
 loop-to-preserved c =
     let inv = c.loop-to.invariant in (
       omega arith,
-      ap (λ (x : Contents). x.stops) c.keep-leg.ensures ∙ leg_keeps (contents c.loop-to.book) c.args.from c.loop-to.to c.in-ok-leg.leg ∙ inv.1,
-      again (λ b j. leg_pair c.args.from j) (λ b j leg. with_leg b c.args.from j leg) _ _ (contents c.loop-to.book) c.loop-to.to (c.stops-stops.result + 1 - c.loop-to.to) (c.stops-stops.result + 1 - (c.loop-to.to + 1)) (omega arith) inv.2 c.in-ok-leg.ensures c.keep-leg.ensures,
+      ap (λ (x : Contents). x.stops) c.keep_leg.ensures ∙ leg_keeps (contents c.loop-to.book) c.args.from c.loop-to.to c.in_ok-leg.leg ∙ inv.1,
+      again (λ b j. leg_pair c.args.from j) (λ b j leg. with_leg b c.args.from j leg) _ _ (contents c.loop-to.book) c.loop-to.to (c.stops-stops.result + 1 - c.loop-to.to) (c.stops-stops.result + 1 - (c.loop-to.to + 1)) (omega arith) inv.2 c.in_ok-leg.ensures c.keep_leg.ensures,
     )
 
-pub returns-in-err-leg : goal.returns-in-err-leg
-returns-in-err-leg c =
-    faulty (λ b j. leg_pair c.args.from j) (λ b j leg. with_leg b c.args.from j leg) _ _ (contents c.loop-to.book) c.loop-to.to (c.stops-stops.result + 1 - c.loop-to.to) (c.stops-stops.result - c.loop-to.to) _ _ (omega arith) c.loop-to.invariant.2 c.in-err-leg.ensures c.from-residual.ensures.1
+pub returns-in_err-leg : goal.returns-in_err-leg
+returns-in_err-leg c =
+    faulty (λ b j. leg_pair c.args.from j) (λ b j leg. with_leg b c.args.from j leg) _ _ (contents c.loop-to.book) c.loop-to.to (c.stops-stops.result + 1 - c.loop-to.to) (c.stops-stops.result - c.loop-to.to) _ _ (omega arith) c.loop-to.invariant.2 c.in_err-leg.ensures c.from_residual.ensures.1
 
 pub returns : goal.returns
 returns c = whole (λ b j. leg_pair c.args.from j) (λ b j leg. with_leg b c.args.from j leg) _ _ (contents c.loop-to.book) c.loop-to.to (c.stops-stops.result + 1 - c.loop-to.to) (omega arith) c.loop-to.invariant.2
 
-pub overflow-add-to : goal.overflow-add-to
-overflow-add-to c =
+pub overflow_add-to : goal.overflow_add-to
+overflow_add-to c =
     let few = stops_kept (contents c.loop-to.book) (in_ranges c.loop-to.book) in
     let known = c.loop-to.invariant.1 in
     omega arith

@@ -1,20 +1,20 @@
 use Rattle.text.proofs.Reading.{steps, escapes, gives}
 use Rattle.deck.proofs.stop_lines.read_window.Goals as goal
 
-pub returns-in-err-open-item : goal.returns-in-err-open-item
-returns-in-err-open-item c = escapes _ _ _ c.in-err-open-item.ensures c.from-residual.ensures.1
+pub returns-in_err-open_item : goal.returns-in_err-open_item
+returns-in_err-open_item c = escapes _ _ _ c.in_err-open_item.ensures c.from_residual.ensures.1
 
-pub returns-in-err-opens : goal.returns-in-err-opens
-returns-in-err-opens c = steps _ _ c.in-ok-open-item.ensures (escapes _ _ _ c.in-err-opens.ensures c.from-residual-in-err-opens.ensures.1)
+pub returns-in_err-opens : goal.returns-in_err-opens
+returns-in_err-opens c = steps _ _ c.in_ok-open_item.ensures (escapes _ _ _ c.in_err-opens.ensures c.from_residual-in_err-opens.ensures.1)
 
-pub returns-in-err-due-mark : goal.returns-in-err-due-mark
-returns-in-err-due-mark c = steps _ _ c.in-ok-open-item.ensures (steps _ _ c.in-ok-opens.ensures (escapes _ _ _ c.in-err-due-mark.ensures c.from-residual-in-err-due-mark.ensures.1))
+pub returns-in_err-due_mark : goal.returns-in_err-due_mark
+returns-in_err-due_mark c = steps _ _ c.in_ok-open_item.ensures (steps _ _ c.in_ok-opens.ensures (escapes _ _ _ c.in_err-due_mark.ensures c.from_residual-in_err-due_mark.ensures.1))
 
-pub returns-in-err-closes : goal.returns-in-err-closes
-returns-in-err-closes c = steps _ _ c.in-ok-open-item.ensures (steps _ _ c.in-ok-opens.ensures (steps _ _ c.in-ok-due-mark.ensures (escapes _ _ _ c.in-err-closes.ensures c.from-residual-in-err-closes.ensures.1)))
+pub returns-in_err-closes : goal.returns-in_err-closes
+returns-in_err-closes c = steps _ _ c.in_ok-open_item.ensures (steps _ _ c.in_ok-opens.ensures (steps _ _ c.in_ok-due_mark.ensures (escapes _ _ _ c.in_err-closes.ensures c.from_residual-in_err-closes.ensures.1)))
 
-pub returns-in-err-due-mark-2 : goal.returns-in-err-due-mark-2
-returns-in-err-due-mark-2 c = steps _ _ c.in-ok-open-item.ensures (steps _ _ c.in-ok-opens.ensures (steps _ _ c.in-ok-due-mark.ensures (steps _ _ c.in-ok-closes.ensures (escapes _ _ _ c.in-err-due-mark-2.ensures c.from-residual-in-err-due-mark-2.ensures.1))))
+pub returns-in_err-due_mark-2 : goal.returns-in_err-due_mark-2
+returns-in_err-due_mark-2 c = steps _ _ c.in_ok-open_item.ensures (steps _ _ c.in_ok-opens.ensures (steps _ _ c.in_ok-due_mark.ensures (steps _ _ c.in_ok-closes.ensures (escapes _ _ _ c.in_err-due_mark-2.ensures c.from_residual-in_err-due_mark-2.ensures.1))))
 
 pub returns : goal.returns
-returns c = steps _ _ c.in-ok-open-item.ensures (steps _ _ c.in-ok-opens.ensures (steps _ _ c.in-ok-due-mark.ensures (steps _ _ c.in-ok-closes.ensures (steps _ _ c.in-ok-due-mark-2.ensures (gives)))))
+returns c = steps _ _ c.in_ok-open_item.ensures (steps _ _ c.in_ok-opens.ensures (steps _ _ c.in_ok-due_mark.ensures (steps _ _ c.in_ok-closes.ensures (steps _ _ c.in_ok-due_mark-2.ensures (gives)))))

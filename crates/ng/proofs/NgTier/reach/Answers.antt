@@ -10,7 +10,7 @@ places g c =
     let t = c.args.self.now.below in
     let laws = g.met.B.Tier.lawful t (g.B.Tier.value t) here in
     let few = laws.sizes.few_stops in
-    let leg = laws.interface.reach_is_leg _ _ _ _ _ (sym c.reach.ensures ∙ c.in-ok-below.was) in
+    let leg = laws.interface.reach_is_leg _ _ _ _ _ (sym c.reach.ensures ∙ c.in_ok-below.was) in
     let from = leg.from in
     let to = leg.to in
     (omega arith, omega arith)

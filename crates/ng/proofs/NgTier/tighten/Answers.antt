@@ -13,8 +13,8 @@ index_small g c =
     let low = c.if-index-stops.false in
     omega arith
 
-pub offset-bounds-self-index : goal.offset-bounds-self-index
-offset-bounds-self-index g c = omega (arith, index_small g (goal.at.offset-bounds-self-index g c).Else-amount-ne0)
+pub offset_bounds-self-index : goal.offset_bounds-self-index
+offset_bounds-self-index g c = omega (arith, index_small g (goal.at.offset_bounds-self-index g c).Else-amount-ne0)
 
 pub bounds-self-index : goal.bounds-self-index
 bounds-self-index g c = index_small g (goal.at.bounds-self-index g c).Else-amount-ne0

@@ -5,8 +5,8 @@ use Rattle.price.specs.Labels.{writing}
 use Rattle.price.proofs.Keeps.{unused_put, unused_wider, crowded, keeps}
 use Rattle.price.proofs.offers.offer.Goals as goal
 
-pub overflow-add-progress-2 : goal.overflow-add-progress-2
-overflow-add-progress-2 g c =
+pub overflow_add-progress-2 : goal.overflow_add-progress-2
+overflow_add-progress-2 g c =
     let m = g.T.Tier.meaning.answers (g.T.Tier.value c.args.tier.now) in
     let a = c.strike.ensures.count in
     let b = count_by-le-length (falls (writing m.start) m c.args.label.now) c.args.store.now in
@@ -14,14 +14,14 @@ overflow-add-progress-2 g c =
     let f = c.requires.few.struck in
     omega arith
 
-pub offset-bounds-store-place : goal.offset-bounds-store-place
-offset-bounds-store-place g c = let h : c.in-Some.place < length c.args.store.now = rw (← c.strike.auto.store) c.in-Some.ensures.within in search rules
+pub offset_bounds-store-place : goal.offset_bounds-store-place
+offset_bounds-store-place g c = let h : c.in-Some.place < length c.args.store.now = rw (← c.strike.auto.store) c.in-Some.ensures.within in search rules
 
 pub returns-in-None : goal.returns-in-None
 returns-in-None g c =
     let m = g.T.Tier.meaning.answers (g.T.Tier.value c.args.tier.now) in
     record {
-      step = crowded m c.args.label.now c.args.store.now c.strike.new.store c.args.progress.now c.if-turned-away.ensures c.strike.ensures.struck c.in-None.ensures.value;
+      step = crowded m c.args.label.now c.args.store.now c.strike.new.store c.args.progress.now c.if-turned_away.ensures c.strike.ensures.struck c.in-None.ensures.value;
       goes = tt;
     }
 
@@ -38,7 +38,7 @@ returns-in-Some g c =
     let wide = unused_wider m.start c.args.progress.now.used c.strike.new.store c.strike.ensures.unused c.max-progress.result (omega arith) (omega arith) in
     let unused = unused_put m.start c.max-progress.result c.strike.new.store wide c.in-Some.place c.args.label.now (omega arith) in
     record {
-      step = keeps m c.args.label.now c.args.store.now c.strike.new.store c.args.progress.now c.in-Some.place c.strike.result c.if-turned-away.ensures c.strike.ensures.struck c.strike.ensures.count c.in-Some.ensures.value;
+      step = keeps m c.args.label.now c.args.store.now c.strike.new.store c.args.progress.now c.in-Some.place c.strike.result c.if-turned_away.ensures c.strike.ensures.struck c.strike.ensures.count c.in-Some.ensures.value;
       goes = record {
         unused = unused;
         kept = omega arith;

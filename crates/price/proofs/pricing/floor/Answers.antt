@@ -37,11 +37,11 @@ parts g c =
       credit = rw k (omega arith);
     }
 
-pub overflow-mul-result : goal.overflow-mul-result
-overflow-mul-result g c = let p = parts g c in let s = p.small in rw p.is (omega (arith, ints))
+pub overflow_mul-result : goal.overflow_mul-result
+overflow_mul-result g c = let p = parts g c in let s = p.small in rw p.is (omega (arith, ints))
 
-pub overflow-add-result : goal.overflow-add-result
-overflow-add-result g c = let p = parts g c in let s = p.small in let d = p.credit in rw p.is (omega (arith, ints))
+pub overflow_add-result : goal.overflow_add-result
+overflow_add-result g c = let p = parts g c in let s = p.small in let d = p.credit in rw p.is (omega (arith, ints))
 
 pub returns : goal.returns
 returns g c =

@@ -11,11 +11,11 @@ loop-label-init g c =
     let last = c.args.last in
     (back_start store last c.index-store-last.result c.args.stops c.requires.within c.index-store-last.is c.requires.count, refl, c.requires.long)
 
-pub overflow-sub-left : goal.overflow-sub-left
-overflow-sub-left g c = some_left c.args.store.now c.loop-label.label.now c.loop-label.left c.loop-label.invariant.0 c.in-Some.parent c.requires.back c.in-Some.is
+pub overflow_sub-left : goal.overflow_sub-left
+overflow_sub-left g c = some_left c.args.store.now c.loop-label.label.now c.loop-label.left c.loop-label.invariant.0 c.in-Some.parent c.requires.back c.in-Some.is
 
-pub offset-bounds-row-left : goal.offset-bounds-row-left
-offset-bounds-row-left g c =
+pub offset_bounds-row-left : goal.offset_bounds-row-left
+offset_bounds-row-left g c =
     let s = some_left c.args.store.now c.loop-label.label.now c.loop-label.left c.loop-label.invariant.0 c.in-Some.parent c.requires.back c.in-Some.is in
     let l = c.loop-label.invariant.2 in
     let k = c.loop-label.auto.row in
@@ -28,8 +28,8 @@ bounds-row-left g c =
     let l = c.loop-label.invariant.2 in
     omega arith
 
-pub offset-bounds-store-parent : goal.offset-bounds-store-parent
-offset-bounds-store-parent g c = let h = up_within c.args.store.now c.loop-label.label.now c.loop-label.left c.loop-label.invariant.0 c.in-Some.parent c.requires.back c.in-Some.is in omega arith
+pub offset_bounds-store-parent : goal.offset_bounds-store-parent
+offset_bounds-store-parent g c = let h = up_within c.args.store.now c.loop-label.label.now c.loop-label.left c.loop-label.invariant.0 c.in-Some.parent c.requires.back c.in-Some.is in omega arith
 
 pub bounds-store-parent : goal.bounds-store-parent
 bounds-store-parent g c = up_within c.args.store.now c.loop-label.label.now c.loop-label.left c.loop-label.invariant.0 c.in-Some.parent c.requires.back c.in-Some.is
@@ -57,6 +57,6 @@ loop-label-preserved g c =
 pub returns : goal.returns
 returns g c =
     let store = c.args.store.now in
-    let e = at_root store c.loop-label.label.now c.loop-label.left c.loop-label.invariant.0 c.in-default.is in
-    let n = none_left store c.loop-label.label.now c.loop-label.left c.loop-label.invariant.0 c.in-default.is in
+    let e = at_root store c.loop-label.label.now c.loop-label.left c.loop-label.invariant.0 c.in_default.is in
+    let n = none_left store c.loop-label.label.now c.loop-label.left c.loop-label.invariant.0 c.in_default.is in
     sym (ap (λ w. w ++ drop c.loop-label.left c.loop-label.row) e ∙ ap (λ i. drop i c.loop-label.row) n) ∙ c.loop-label.invariant.1

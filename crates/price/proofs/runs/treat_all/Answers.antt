@@ -37,7 +37,7 @@ treat-requires g c =
 pub loop-place-smaller : goal.loop-place-smaller
 loop-place-smaller g c =
     let m = g.T.Tier.meaning.answers (g.T.Tier.value c.args.tier.now) in
-    let h = (further m (length c.args.store.now) c.loop-place.store c.loop-place.progress c.loop-place.invariant.0 c.in-Some.place c.in-Some.ensures.first c.treat.new.store c.treat.new.progress c.requires.places c.in-ok-treat.ensures.step).1 in
+    let h = (further m (length c.args.store.now) c.loop-place.store c.loop-place.progress c.loop-place.invariant.0 c.in-Some.place c.in-Some.ensures.first c.treat.new.store c.treat.new.progress c.requires.places c.in_ok-treat.ensures.step).1 in
     let n = c.loop-place.auto.store in
     let k = c.treat.auto.store in
     let b = count_by-le-length (λ c. is_treated c.status) c.treat.new.store in
@@ -46,17 +46,17 @@ loop-place-smaller g c =
 pub loop-place-preserved : goal.loop-place-preserved
 loop-place-preserved g c =
     let m = g.T.Tier.meaning.answers (g.T.Tier.value c.args.tier.now) in
-    ((further m (length c.args.store.now) c.loop-place.store c.loop-place.progress c.loop-place.invariant.0 c.in-Some.place c.in-Some.ensures.first c.treat.new.store c.treat.new.progress c.requires.places c.in-ok-treat.ensures.step).0, c.in-ok-treat.ensures.unused)
+    ((further m (length c.args.store.now) c.loop-place.store c.loop-place.progress c.loop-place.invariant.0 c.in-Some.place c.in-Some.ensures.first c.treat.new.store c.treat.new.progress c.requires.places c.in_ok-treat.ensures.step).0, c.in_ok-treat.ensures.unused)
 
-pub returns-in-err-treat : goal.returns-in-err-treat
-returns-in-err-treat g c =
+pub returns-in_err-treat : goal.returns-in_err-treat
+returns-in_err-treat g c =
     let m = g.T.Tier.meaning.answers (g.T.Tier.value c.args.tier.now) in
     let places = length c.args.store.now in
-    let e = not_ok c.from-residual.result c.from-residual.ensures.0 in
+    let e = not_ok c.from_residual.result c.from_residual.ensures.0 in
     subst (λ b. Matches (writing m.start) m places None (outcome b c.treat.new.store c.treat.new.progress) (labelling m (by_key m) places)) (sym e)
-    (crowded m places c.loop-place.store c.loop-place.progress c.loop-place.invariant.0 c.in-Some.place c.in-Some.ensures.first c.requires.places c.in-err-treat.ensures.step)
+    (crowded m places c.loop-place.store c.loop-place.progress c.loop-place.invariant.0 c.in-Some.place c.in-Some.ensures.first c.requires.places c.in_err-treat.ensures.step)
 
 pub returns : goal.returns
 returns g c =
     let m = g.T.Tier.meaning.answers (g.T.Tier.value c.args.tier.now) in
-    done m (length c.args.store.now) c.loop-place.store c.loop-place.progress c.loop-place.invariant.0 c.in-default.ensures.first
+    done m (length c.args.store.now) c.loop-place.store c.loop-place.progress c.loop-place.invariant.0 c.in_default.ensures.first

@@ -14,8 +14,8 @@ charge_small g c =
     let l = g.met.T.Tier.lawful t (g.T.Tier.value t) here in
     reach_bound (g.T.Tier.meaning.answers (g.T.Tier.value t)) l.interface l.sizes _ _ _ _ _ c.requires.sound.stands (sym c.in-Some.ensures)
 
-pub overflow-add-child : goal.overflow-add-child
-overflow-add-child g c = let h = charge_small g (goal.at.overflow-add-child g c).In-Some in let s = c.requires.sound.small in omega (arith, ints)
+pub overflow_add-child : goal.overflow_add-child
+overflow_add-child g c = let h = charge_small g (goal.at.overflow_add-child g c).In-Some in let s = c.requires.sound.small in omega (arith, ints)
 
 pub returns-in-Some : goal.returns-in-Some
 returns-in-Some g c =

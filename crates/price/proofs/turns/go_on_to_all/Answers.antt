@@ -9,8 +9,8 @@ use Rattle.price.proofs.turns.go_on_to_all.Goals as goal
 few_stops : (g : given.Over) (t : g.row.T.Denot) → (g.T.Tier.meaning.answers (g.T.Tier.value t)).stops ≤ 60
 few_stops g t = (g.met.T.Tier.lawful t (g.T.Tier.value t) here).sizes.few_stops
 
-pub go-on-requires : goal.go-on-requires
-go-on-requires g c =
+pub go_on-requires : goal.go_on-requires
+go_on-requires g c =
     let n = few_stops g c.args.tier.now in
     let s = c.stops-stops.ensures in
     let t = c.loop-stop-test.true in
@@ -22,15 +22,15 @@ go-on-requires g c =
     let y = c.requires.short in
     record { sound = c.requires.sound; unused = c.loop-stop.invariant.1; short = omega arith; few = record { kept = omega arith; struck = omega arith; turned = omega arith } }
 
-pub returns-in-err-go-on : goal.returns-in-err-go-on
-returns-in-err-go-on g c =
+pub returns-in_err-go_on : goal.returns-in_err-go_on
+returns-in_err-go_on g c =
     let m = g.T.Tier.meaning.answers (g.T.Tier.value c.args.tier.now) in
-    let e = not_ok c.from-residual.result c.from-residual.ensures.0 in
+    let e = not_ok c.from_residual.result c.from_residual.ensures.0 in
     let s = c.stops-stops.ensures in
     let t = c.loop-stop-test.true in
     record {
-      step = ap (λ b. outcome b c.go-on.new.store c.go-on.new.progress) e ∙ stops_here m c.args.place (view c.args.label.now) m.stops c.loop-stop.stop (omega arith) (work c.loop-stop.store c.loop-stop.progress) c.in-err-go-on.ensures.step ∙ c.loop-stop.invariant.0;
-      unused = subst (λ b. StillUnused m.start b c.go-on.new.store c.go-on.new.progress) (sym e) tt;
+      step = ap (λ b. outcome b c.go_on.new.store c.go_on.new.progress) e ∙ stops_here m c.args.place (view c.args.label.now) m.stops c.loop-stop.stop (omega arith) (work c.loop-stop.store c.loop-stop.progress) c.in_err-go_on.ensures.step ∙ c.loop-stop.invariant.0;
+      unused = subst (λ b. StillUnused m.start b c.go_on.new.store c.go_on.new.progress) (sym e) tt;
     }
 
 pub loop-stop-preserved : goal.loop-stop-preserved
@@ -42,8 +42,8 @@ loop-stop-preserved g c =
     let k = f.kept in
     let l = f.struck in
     let n = f.turned in
-    let w = c.in-ok-go-on.ensures.goes in
+    let w = c.in_ok-go_on.ensures.goes in
     let x = w.kept in
     let y = w.struck in
     let z = w.turned in
-    (goes_further m c.args.place (view c.args.label.now) m.stops c.loop-stop.stop (omega arith) (work c.loop-stop.store c.loop-stop.progress) (work c.go-on.new.store c.go-on.new.progress) c.in-ok-go-on.ensures.step ∙ c.loop-stop.invariant.0, w.unused, record { kept = omega arith; struck = omega arith; turned = omega arith })
+    (goes_further m c.args.place (view c.args.label.now) m.stops c.loop-stop.stop (omega arith) (work c.loop-stop.store c.loop-stop.progress) (work c.go_on.new.store c.go_on.new.progress) c.in_ok-go_on.ensures.step ∙ c.loop-stop.invariant.0, w.unused, record { kept = omega arith; struck = omega arith; turned = omega arith })

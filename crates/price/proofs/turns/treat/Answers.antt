@@ -7,8 +7,8 @@ use Rattle.price.proofs.Goes.{treats}
 use Rattle.price.proofs.turns.treat.Given as given
 use Rattle.price.proofs.turns.treat.Goals as goal
 
-pub go-on-to-all-requires : goal.go-on-to-all-requires
-go-on-to-all-requires g c =
+pub go_on_to_all-requires : goal.go_on_to_all-requires
+go_on_to_all-requires g c =
     let m = g.T.Tier.meaning.answers (g.T.Tier.value c.args.tier.now) in
     let cells = c.args.store.now in
     let x = c.index-store-place.result in
@@ -36,6 +36,6 @@ returns g c =
     let inside : c.args.place < length cells = omega arith in
     let here = get_or_read cells c.args.place x inside c.index-store-place.is (blank m.start) in
     record {
-      step = c.go-on-to-all.ensures.step ∙ treats m cells c.args.progress.now c.args.place x c.try-finish-progress.result here c.try-finish-progress.ensures;
-      unused = c.go-on-to-all.ensures.unused;
+      step = c.go_on_to_all.ensures.step ∙ treats m cells c.args.progress.now c.args.place x c.try_finish-progress.result here c.try_finish-progress.ensures;
+      unused = c.go_on_to_all.ensures.unused;
     }

@@ -14,8 +14,8 @@ home_small g c =
     let l = g.met.T.Tier.lawful t (g.T.Tier.value t) here in
     finish_bound (g.T.Tier.meaning.answers (g.T.Tier.value t)) l.interface l.sizes _ _ _ c.requires.stands (sym c.in-Some.ensures)
 
-pub overflow-add-label : goal.overflow-add-label
-overflow-add-label g c = let h = home_small g (goal.at.overflow-add-label g c).In-Some in let s = c.requires.small in omega (arith, ints)
+pub overflow_add-label : goal.overflow_add-label
+overflow_add-label g c = let h = home_small g (goal.at.overflow_add-label g c).In-Some in let s = c.requires.small in omega (arith, ints)
 
 pub returns-in-Some : goal.returns-in-Some
 returns-in-Some g c =

@@ -18,7 +18,7 @@ loop-call-preserved g c =
     let i = c.loop-call.call-index in
     let h = c.loop-call-test.true in
     let num = c.loop-call.self.vans in (
-      answered_more d vans called cs i _ h num inv.2 v w c.make.ensures.after (map meant xs) (map meant (vec_items c.push.new.self)) _ (meant c.in-ok-answer.answer) (ap (map meant) c.in-ok-push.ensures.items ∙ map-append meant xs (c.in-ok-answer.answer ∷ [])) c.in-ok-answer.ensures.answer inv.0,
+      answered_more d vans called cs i _ h num inv.2 v w c.make.ensures.after (map meant xs) (map meant (vec_items c.push.new.self)) _ (meant c.in_ok-answer.answer) (ap (map meant) c.in_ok-push.ensures.items ∙ map-append meant xs (c.in_ok-answer.answer ∷ [])) c.in_ok-answer.ensures.answer inv.0,
       left_more d vans called cs i _ h num inv.2 v w c.make.ensures.after _ inv.1,
       c.make.ensures.vans ∙ inv.2,
       left_so_far d vans called cs i _ h num inv.2 v w c.make.ensures.after _ inv.3,
@@ -36,9 +36,9 @@ returns g c =
       vans = inv.2;
     }
 
-pub returns-in-err-answer : goal.returns-in-err-answer
-returns-in-err-answer g c =
-    let r = c.from-residual in
+pub returns-in_err-answer : goal.returns-in_err-answer
+returns-in_err-answer g c =
+    let r = c.from_residual in
     let inv = c.loop-call.invariant in
     record {
       carried = failed_made _ r.result r.ensures.0;
@@ -47,9 +47,9 @@ returns-in-err-answer g c =
       vans = c.make.ensures.vans ∙ inv.2;
     }
 
-pub returns-in-err-push : goal.returns-in-err-push
-returns-in-err-push g c =
-    let r = c.from-residual-in-err-push in
+pub returns-in_err-push : goal.returns-in_err-push
+returns-in_err-push g c =
+    let r = c.from_residual-in_err-push in
     let inv = c.loop-call.invariant in
     record {
       carried = failed_made _ r.result r.ensures.0;

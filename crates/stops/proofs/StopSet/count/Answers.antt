@@ -5,8 +5,8 @@ use Rattle.stops.proofs.Members.{none_past, count_past, count_more, count_small}
 use Rattle.stops.proofs.StopSet.count.Goals as goal
 use Rattle.stops.proofs.StopSet.count.Goals.{then-has, else-has}
 
-pub overflow-add-members : goal.overflow-add-members
-overflow-add-members c =
+pub overflow_add-members : goal.overflow_add-members
+overflow_add-members c =
     let l = count_small (member c.args.self.word) (c.loop-stop.stop - 1) in
     let i = c.loop-stop.invariant in
     let e = c.min-stop-end.ensures in

@@ -19,25 +19,25 @@ loop-to-init g c =
     let e = c.start-state.ensures in
     (rw e (plus_zero _), subst (Standing m 0) (sym e) at_depot, omega arith)
 
-pub returns-in-err-next : goal.returns-in-err-next
-returns-in-err-next g c =
+pub returns-in_err-next : goal.returns-in_err-next
+returns-in_err-next g c =
     let m = g.T.Tier.meaning.answers (g.T.Tier.value c.args.tier.now) in
-    subst (Went m c.args.route.now) (sym c.from-residual.ensures) (barred_here m _ _ _ _ _ c.loop-to-test.true c.loop-to.invariant.0 (sym c.reach.ensures ∙ c.in-err-next.was))
+    subst (Went m c.args.route.now) (sym c.from_residual.ensures) (barred_here m _ _ _ _ _ c.loop-to-test.true c.loop-to.invariant.0 (sym c.reach.ensures ∙ c.in_err-next.was))
 
 -- one stop further: the key has risen and stays within the day, and the charge is small
 record Moved (g : given.Over) (c : In-ok-next g) : Type 0 where
-  rises : (g.T.Tier.meaning.answers (g.T.Tier.value c.args.tier.now)).key c.loop-to.state < (g.T.Tier.meaning.answers (g.T.Tier.value c.args.tier.now)).key c.in-ok-next.next
-  in_day : (g.T.Tier.meaning.answers (g.T.Tier.value c.args.tier.now)).key c.in-ok-next.next ≤ 1440
-  small : nat_abs c.in-ok-next.charge ≤ 2 ^ 38
-  reaches : (g.T.Tier.meaning.answers (g.T.Tier.value c.args.tier.now)).reach c.loop-to.state c.loop-to.from (get_or c.args.route.now c.loop-to.to-index 0) ≡ Some (c.in-ok-next.next, c.in-ok-next.charge)
-  stands : Standing (g.T.Tier.meaning.answers (g.T.Tier.value c.args.tier.now)) (get_or c.args.route.now c.loop-to.to-index 0) c.in-ok-next.next
+  rises : (g.T.Tier.meaning.answers (g.T.Tier.value c.args.tier.now)).key c.loop-to.state < (g.T.Tier.meaning.answers (g.T.Tier.value c.args.tier.now)).key c.in_ok-next.next
+  in_day : (g.T.Tier.meaning.answers (g.T.Tier.value c.args.tier.now)).key c.in_ok-next.next ≤ 1440
+  small : nat_abs c.in_ok-next.charge ≤ 2 ^ 38
+  reaches : (g.T.Tier.meaning.answers (g.T.Tier.value c.args.tier.now)).reach c.loop-to.state c.loop-to.from (get_or c.args.route.now c.loop-to.to-index 0) ≡ Some (c.in_ok-next.next, c.in_ok-next.charge)
+  stands : Standing (g.T.Tier.meaning.answers (g.T.Tier.value c.args.tier.now)) (get_or c.args.route.now c.loop-to.to-index 0) c.in_ok-next.next
 
 moved : (g : given.Over) (c : In-ok-next g) → Moved g c
 moved g c =
     let m = g.T.Tier.meaning.answers (g.T.Tier.value c.args.tier.now) in
     let l = laws_of g c.args.tier.now in
     let stands = c.loop-to.invariant.1 in
-    let e = sym c.reach.ensures ∙ c.in-ok-next.was in
+    let e = sym c.reach.ensures ∙ c.in_ok-next.was in
     record {
       rises = l.keys.reach_raises_key _ _ _ _ _ stands e;
       in_day = l.keys.key_in_range _ _ (reached _ _ _ stands e);
@@ -46,8 +46,8 @@ moved g c =
       stands = reached _ _ _ stands e;
     }
 
-pub overflow-add-cost : goal.overflow-add-cost
-overflow-add-cost g c = let k = moved g (goal.at.overflow-add-cost g c).In-ok-next in let b = c.loop-to.invariant.2 in omega (arith, ints)
+pub overflow_add-cost : goal.overflow_add-cost
+overflow_add-cost g c = let k = moved g (goal.at.overflow_add-cost g c).In-ok-next in let b = c.loop-to.invariant.2 in omega (arith, ints)
 
 pub loop-to-preserved : goal.loop-to-preserved
 loop-to-preserved g c =

@@ -7,16 +7,16 @@ use Rattle.tier.proofs.replays.go_home.Given as given
 use Rattle.tier.proofs.replays.go_home.Goals as goal
 use Rattle.tier.proofs.replays.go_home.Goals.{In-ok-home}
 
-home_small : (g : given.Over) (c : In-ok-home g) → nat_abs c.in-ok-home.home ≤ 2 ^ 38
+home_small : (g : given.Over) (c : In-ok-home g) → nat_abs c.in_ok-home.home ≤ 2 ^ 38
 home_small g c =
     let t = c.args.tier.now in
     let m = g.T.Tier.meaning.answers (g.T.Tier.value t) in
     let l = g.met.T.Tier.lawful t (g.T.Tier.value t) here in
-    finish_bound m l.interface l.sizes _ _ _ c.requires.stands (sym c.finish.ensures ∙ c.in-ok-home.was)
+    finish_bound m l.interface l.sizes _ _ _ c.requires.stands (sym c.finish.ensures ∙ c.in_ok-home.was)
 
-pub overflow-add-result : goal.overflow-add-result
-overflow-add-result g c =
-    let h = home_small g (goal.at.overflow-add-result g c).In-ok-home in
+pub overflow_add-result : goal.overflow_add-result
+overflow_add-result g c =
+    let h = home_small g (goal.at.overflow_add-result g c).In-ok-home in
     let s = c.requires.small in
     omega (arith, ints)
 
@@ -24,5 +24,5 @@ pub returns : goal.returns
 returns g c =
     let h = home_small g (goal.at.returns g c).In-ok-home in
     let s = c.requires.small in
-    let e = sym c.finish.ensures ∙ c.in-ok-home.was in
+    let e = sym c.finish.ensures ∙ c.in_ok-home.was in
     sym (ap (plus c.args.cost) e ∙ ap Some (omega (arith, ints)))

@@ -12,29 +12,29 @@ loop-from-init c =
     let all : c.stops-stops.result + 1 - 0 ≡ suc c.args.book.now.stops = omega arith in
     (omega arith, c.requires, λ after r rest. rw all at rest)
 
-pub overflow-add-from : goal.overflow-add-from
-overflow-add-from c =
+pub overflow_add-from : goal.overflow_add-from
+overflow_add-from c =
     let few = stops_kept (contents c.args.book.now) (in_ranges c.args.book.now) in
     let known = c.stops-stops.ensures in
     omega arith
 
-pub write-leg-line-requires : goal.write-leg-line-requires
-write-leg-line-requires c = let known = c.stops-stops.ensures in omega arith
+pub write_leg_line-requires : goal.write_leg_line-requires
+write_leg_line-requires c = let known = c.stops-stops.ensures in omega arith
 
 pub loop-from-preserved : goal.loop-from-preserved
 loop-from-preserved c =
     let b = contents c.args.book.now in
     let i = c.loop-from.from in
     let n = c.stops-stops.result in
-    let w = c.in-ok-write-leg-line.ensures.wrote in
+    let w = c.in_ok-write_leg_line.ensures.wrote in
     (omega arith, room_after w, again (leg_line_bytes b) (leg_lines_bytes b (suc b.stops) 0) c.args.out.now i (n + 1 - i) (n + 1 - (i + 1)) (omega arith) c.loop-from.invariant.2 w)
 
-pub returns-in-err-write-leg-line : goal.returns-in-err-write-leg-line
-returns-in-err-write-leg-line c =
+pub returns-in_err-write_leg_line : goal.returns-in_err-write_leg_line
+returns-in_err-write_leg_line c =
     let b = contents c.args.book.now in
     let i = c.loop-from.from in
     let n = c.stops-stops.result in
-    let w = full (leg_line_bytes b) (leg_lines_bytes b (suc b.stops) 0) c.args.out.now i (n + 1 - i) (n - i) c.from-residual.result (omega arith) c.loop-from.invariant.2 c.in-err-write-leg-line.ensures.wrote c.from-residual.ensures.1 in
+    let w = full (leg_line_bytes b) (leg_lines_bytes b (suc b.stops) 0) c.args.out.now i (n + 1 - i) (n - i) c.from_residual.result (omega arith) c.loop-from.invariant.2 c.in_err-write_leg_line.ensures.wrote c.from_residual.ensures.1 in
     record { held = w.held; wrote = w }
 
 pub returns : goal.returns

@@ -3,8 +3,8 @@ use Rattle.book.specs.Books.{contents}
 use Rattle.book.proofs.Fits.{few_stops, apart_of, legs_put, TakenLeg, taken_leg}
 use Rattle.book.proofs.book.Book.put_leg.Goals as goal
 
-pub overflow-mul-leg : goal.overflow-mul-leg
-overflow-mul-leg c =
+pub overflow_mul-leg : goal.overflow_mul-leg
+overflow_mul-leg c =
     let t = c.args.self.now in
     let few = few_stops t.stops t.fleet t.fleets in
     let k = taken_leg (contents t) c.args.from c.args.to c.args.leg c.if-driven.ensures c.if-from-to.true in
@@ -17,8 +17,8 @@ bounds-self-from c =
     let k = taken_leg (contents t) c.args.from c.args.to c.args.leg c.if-driven.ensures c.if-from-to.true in
     omega arith
 
-pub invariant-of-self : goal.invariant-of-self
-invariant-of-self c =
+pub invariant_of-self : goal.invariant_of-self
+invariant_of-self c =
     let t = c.args.self.now in
     let few = few_stops t.stops t.fleet t.fleets in
     let k = taken_leg (contents t) c.args.from c.args.to c.args.leg c.if-driven.ensures c.if-from-to.true in

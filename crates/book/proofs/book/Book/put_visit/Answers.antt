@@ -3,8 +3,8 @@ use Rattle.book.specs.Books.{contents}
 use Rattle.book.proofs.Fits.{visits_put, taken_visit}
 use Rattle.book.proofs.book.Book.put_visit.Goals as goal
 
-pub invariant-of-self : goal.invariant-of-self
-invariant-of-self c =
+pub invariant_of-self : goal.invariant_of-self
+invariant_of-self c =
     let t = c.args.self.now in
     let k = taken_visit (contents t) c.args.stop c.args.visit c.if-visited.ensures in
     (t.fleets, (visits_put t.stops t.visits c.args.stop c.args.visit k.stop k.fits t.visiting, (t.driving, (length-set t.visits c.args.stop c.args.visit ∙ t.places, (t.pairs, tt)))))

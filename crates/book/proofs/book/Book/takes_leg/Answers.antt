@@ -10,4 +10,4 @@ pub returns-then-to-self : goal.returns-then-to-self
 returns-then-to-self c = takes_outside (contents c.args.self.now) c.args.from c.args.to c.args.leg (inr c.if-to-self.true)
 
 pub returns : goal.returns
-returns c = c.fits-leg.ensures ∙ takes_in_range (contents c.args.self.now) c.args.from c.args.to c.args.leg c.if-from-self.false c.if-to-self.false c.if-from-to.false
+returns c = c.fits_leg.ensures ∙ takes_in_range (contents c.args.self.now) c.args.from c.args.to c.args.leg c.if-from-self.false c.if-to-self.false c.if-from-to.false

@@ -18,7 +18,7 @@ small : (g : given.Over) (c : After-penalties g) → Small g c
 small g c =
     let d = g.B.Tier.meaning in
     let v = g.B.Tier.value c.args.self.now.below in
-    let low : higher (d.answers v).tiers ≤ 4 = subst (λ (n : ℕ). n ≤ 4) c.tiers.ensures c.if-tiers-gt-MOST-TIERS.false in
+    let low : higher (d.answers v).tiers ≤ 4 = subst (λ (n : ℕ). n ≤ 4) c.tiers.ensures c.if-tiers-gt-MOST_TIERS.false in
     let p = table_small c.args.self.now.table in
     let e = c.penalties.ensures in
     record {
@@ -27,11 +27,11 @@ small g c =
       penalties = omega arith;
     }
 
-pub overflow-cast-result : goal.overflow-cast-result
-overflow-cast-result g c = let s = small g c in omega (arith, ints)
+pub overflow_cast-result : goal.overflow_cast-result
+overflow_cast-result g c = let s = small g c in omega (arith, ints)
 
-pub overflow-sub-result : goal.overflow-sub-result
-overflow-sub-result g c = let s = small g c in omega (arith, ints)
+pub overflow_sub-result : goal.overflow_sub-result
+overflow_sub-result g c = let s = small g c in omega (arith, ints)
 
 pub returns : goal.returns
 returns g c =

@@ -12,8 +12,8 @@ added c =
     let cs = cuts_of c.args.self.now in
     c.fee-sum.ensures ∙ ap (λ x. fee x c.args.to c.has.result) c.cut.ensures ∙ ap (λ b. fee (cut_at cs c.loop-k.k) c.args.to b) c.has.ensures
 
-pub overflow-add-sum : goal.overflow-add-sum
-overflow-add-sum c =
+pub overflow_add-sum : goal.overflow_add-sum
+overflow_add-sum c =
     let t = c.args.self.now in
     let few = t.few in
     let s = sum_fits (λ k. fee (cut_at (cuts_of c.args.self.now) k) c.args.to (stands c.args.bits k)) c.loop-k.k c.loop-k.sum c.fee-sum.result (fee_small t c.args.to c.args.bits) (omega (arith, c.loop-k-test.true)) c.loop-k.invariant (added c) in

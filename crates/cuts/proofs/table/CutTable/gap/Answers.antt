@@ -13,8 +13,8 @@ added c =
     c.lag-sum.ensures ∙ ap (λ x. lag x c.has.result c.has-in-loop-k.result) c.cut.ensures ∙ ap (λ a. lag (cut_at cs c.loop-k.k) a c.has-in-loop-k.result) c.has.ensures
     ∙ ap (λ b. lag (cut_at cs c.loop-k.k) (stands c.args.a c.loop-k.k) b) c.has-in-loop-k.ensures
 
-pub overflow-add-sum : goal.overflow-add-sum
-overflow-add-sum c =
+pub overflow_add-sum : goal.overflow_add-sum
+overflow_add-sum c =
     let t = c.args.self.now in
     let few = t.few in
     let s = sum_fits (λ k. lag (cut_at (cuts_of c.args.self.now) k) (stands c.args.a k) (stands c.args.b k)) c.loop-k.k c.loop-k.sum c.lag-sum.result (lag_small t c.args.a c.args.b) (omega (arith, c.loop-k-test.true)) c.loop-k.invariant (added c) in

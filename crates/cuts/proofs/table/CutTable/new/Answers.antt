@@ -7,8 +7,8 @@ use Rattle.cuts.specs.Arrays.{kept_parts}
 use Rattle.cuts.proofs.Threes.{three_none}
 use Rattle.cuts.proofs.table.CutTable.new.Goals as goal
 
-pub invariant-of-result : goal.invariant-of-result
-invariant-of-result c =
+pub invariant_of-result : goal.invariant_of-result
+invariant_of-result c =
     let e = sym c.blanks.ensures in
     let good = each_copy GoodCut blank_cut 32 blank_cut good_blank good_blank in
     (omega arith, (three_none c.blanks.result, kept_parts c.blanks.result (subst (λ (xs : List Cut). length xs ≡ 32) e refl) (subst (λ (xs : List Cut). (k : ℕ) → GoodCut (cut_at xs k)) e good)))

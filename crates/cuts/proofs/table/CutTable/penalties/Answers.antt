@@ -6,8 +6,8 @@ use Rattle.cuts.specs.Arrays.{length_of}
 use Rattle.cuts.proofs.Loops.{sum_fits, sum_step, penalty_small}
 use Rattle.cuts.proofs.table.CutTable.penalties.Goals as goal
 
-pub overflow-add-sum : goal.overflow-add-sum
-overflow-add-sum c =
+pub overflow_add-sum : goal.overflow_add-sum
+overflow_add-sum c =
     let t = c.args.self.now in
     let few = t.few in
     let k = c.loop-k.k in

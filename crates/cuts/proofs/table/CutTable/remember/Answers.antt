@@ -10,8 +10,8 @@ use Rattle.cuts.proofs.Threes.{three_put}
 use Rattle.cuts.proofs.Gives.{did_taken, old_taken}
 use Rattle.cuts.proofs.table.CutTable.remember.Goals as goal
 
-pub invariant-of-self : goal.invariant-of-self
-invariant-of-self c =
+pub invariant_of-self : goal.invariant_of-self
+invariant_of-self c =
     let t = c.args.self.now in
     let i = c.args.index in
     let grown = good_remember (cut_at t.cuts i) c.args.members.word (table_cut t i) in
@@ -25,5 +25,5 @@ returns c =
     let members = c.args.members.word in
     let zero : nat_abs c.args.amount ≡ 0 = omega (arith, ints, c.if-amount-ne0.false) in
     did_taken (tighten_old c.args.stops (cuts_of t) i members c.args.amount) (cuts_of t) (set (cuts_of t) i (remember (cut_at (cuts_of t) i) members)) _
-    (old_taken c.args.stops (cuts_of t) i members c.args.amount (sym c.if-not-all-stops.ensures) zero)
+    (old_taken c.args.stops (cuts_of t) i members c.args.amount (sym c.if-not-all_stops.ensures) zero)
     (ap (λ x. take t.count (set t.cuts i x)) c.remembering.ensures ∙ cut_changed t.count t.cuts i (λ x. remember x members) c.requires)

@@ -17,21 +17,21 @@ returns-then-index-self c =
     did_refused (set_penalty (cuts_of t) c.args.index c.args.amount) (cuts_of t) NoSuchIndex
     (set_no_index (cuts_of t) c.args.index c.args.amount (omega (arith, c.if-index-self.true)))
 
-pub returns-then-not-is-penalty : goal.returns-then-not-is-penalty
-returns-then-not-is-penalty c =
+pub returns-then-not-is_penalty : goal.returns-then-not-is_penalty
+returns-then-not-is_penalty c =
     let t = c.args.self.now in
     let l = length_of t in
     let fits : SFits w64 c.args.amount = c.ranges.amount in
-    let bad : in_range c.args.amount ≡ false = sym (simp to_z-of_z at c.if-not-is-penalty.ensures) in
+    let bad : in_range c.args.amount ≡ false = sym (simp to_z-of_z at c.if-not-is_penalty.ensures) in
     did_refused (set_penalty (cuts_of t) c.args.index c.args.amount) (cuts_of t) BadAmount
     (set_bad_amount (cuts_of t) c.args.index c.args.amount (omega (arith, c.if-index-self.false)) bad)
 
-pub invariant-of-self : goal.invariant-of-self
-invariant-of-self c =
+pub invariant_of-self : goal.invariant_of-self
+invariant_of-self c =
     let t = c.args.self.now in
     let amount = to_z w64 (of_z w64 c.args.amount) in
     let i = c.args.index in
-    (t.few, (three_put t.count t.cuts i (reprice (cut_at t.cuts i) amount) refl t.three, cut_put t i (reprice (cut_at t.cuts i) amount) (good_reprice (cut_at t.cuts i) amount (table_cut t i) (sym c.if-not-is-penalty.ensures))))
+    (t.few, (three_put t.count t.cuts i (reprice (cut_at t.cuts i) amount) refl t.three, cut_put t i (reprice (cut_at t.cuts i) amount) (good_reprice (cut_at t.cuts i) amount (table_cut t i) (sym c.if-not-is_penalty.ensures))))
 
 pub returns : goal.returns
 returns c =
@@ -39,7 +39,7 @@ returns c =
     let i = c.args.index in
     let l = length_of t in
     let fits : SFits w64 c.args.amount = c.ranges.amount in
-    let good : in_range c.args.amount ≡ true = sym (simp to_z-of_z at c.if-not-is-penalty.ensures) in
+    let good : in_range c.args.amount ≡ true = sym (simp to_z-of_z at c.if-not-is_penalty.ensures) in
     did_taken (set_penalty (cuts_of t) i c.args.amount) (cuts_of t) (set (cuts_of t) i (reprice (cut_at (cuts_of t) i) c.args.amount)) _
     (set_taken (cuts_of t) i c.args.amount (omega (arith, c.if-index-self.false)) good)
     (ap (λ a. take t.count (set t.cuts i (reprice (cut_at t.cuts i) a))) (to_z-of_z w64 c.args.amount fits) ∙ cut_changed t.count t.cuts i (λ x. reprice x c.args.amount) c.if-index-self.false)

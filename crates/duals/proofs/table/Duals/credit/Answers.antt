@@ -4,8 +4,8 @@ use Rattle.duals.specs.Duals.{dual_of, sum_of_duals}
 use Rattle.duals.proofs.Credits.{sum_more, sum_small}
 use Rattle.duals.proofs.table.Duals.credit.Goals as goal
 
-pub overflow-add-sum : goal.overflow-add-sum
-overflow-add-sum c =
+pub overflow_add-sum : goal.overflow_add-sum
+overflow_add-sum c =
     let t = c.args.self.now in
     let s = sum_small t.amounts (c.loop-stop.stop - 1) t.ranged in
     let d = t.ranged c.loop-stop.stop in

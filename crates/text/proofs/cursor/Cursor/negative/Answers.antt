@@ -9,7 +9,7 @@ value-requires c =
     let bs = c.args.self.now.text.now in
     let p = c.args.self.now.at + 1 in
     let e = cut Digit bs p c.run-n.result c.run-n.ensures.count in
-    (non_zero_few _ (sym c.if-not-is-non-zero.ensures), λ k h. rw e (front_passes (in_class Digit) 0 (drop p bs) k (omega (arith, ap length e))))
+    (non_zero_few _ (sym c.if-not-is_non_zero.ensures), λ k h. rw e (front_passes (in_class Digit) 0 (drop p bs) k (omega (arith, ap length e))))
 
 pub returns : goal.returns
 returns c =
@@ -20,5 +20,5 @@ returns c =
     let far : p + 1 + n - p ≡ 1 + n = omega arith in
     record {
       text = refl;
-      token = negative_good bs _ _ p n c.value.result c.run-n.ensures.count e c.value.ensures (ap (λ k. take k (drop p bs)) far) (sym c.if-not-is-non-zero.ensures);
+      token = negative_good bs _ _ p n c.value.result c.run-n.ensures.count e c.value.ensures (ap (λ k. take k (drop p bs)) far) (sym c.if-not-is_non_zero.ensures);
     }
