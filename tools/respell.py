@@ -24,6 +24,7 @@ OTHERS = {
     "too-far-to-fill": "is_too_far_to_fill",
     "Covers-of": "covers_of",
     "Falls-of": "falls_of",
+    "ground": "ground_of",  # a word of the proof language, which definitions may not have
 }
 
 # Names of ours without a signature of their own: bound by `let`, `as` or a ghost member.

@@ -44,8 +44,8 @@ module _ {S : Type 0} (m : Answers S) (c : ℤ) (least : (r : List ℕ) (b : ℤ
       let d = deep c in
       omega (arith, ints)
 
-  pub floor_under : (vans : ℕ) (ground : List ℕ → Option ℤ) → m.tiers ≤ most_tiers → PlansPay m ground → (rs : List (List ℕ)) (cost : ℤ) → Plan m.stops ground vans rs cost → floor m vans c ≤ℤ cost
-  floor_under vans ground few pays rs cost p =
+  pub floor_under : (vans : ℕ) (ground_of : List ℕ → Option ℤ) → m.tiers ≤ most_tiers → PlansPay m ground_of → (rs : List (List ℕ)) (cost : ℤ) → Plan m.stops ground_of vans rs cost → floor m vans c ≤ℤ cost
+  floor_under vans ground_of few pays rs cost p =
       let y = pays few vans rs cost p in
       let a = sum_above rs y.sum p.routes y.admitted in
       let b = mul-le-mul_right (depth c) p.few in
@@ -53,16 +53,16 @@ module _ {S : Type 0} (m : Answers S) (c : ℤ) (least : (r : List ℕ) (b : ℤ
       let l = y.at_most in
       omega (arith, ints)
 
-module _ {S : Type 0} (m : Answers S) (ground : List ℕ → Option ℤ) (pays : PlansPay m ground) (vans : ℕ) where
+module _ {S : Type 0} (m : Answers S) (ground_of : List ℕ → Option ℤ) (pays : PlansPay m ground_of) (vans : ℕ) where
   -- where no route is admitted, stop 1 is on none
-  no_plan : m.tiers ≤ most_tiers → 0 < m.stops → NoneAdmitted m → (any : ℕ) (rs : List (List ℕ)) (cost : ℤ) → Plan m.stops ground any rs cost → ⊥
+  no_plan : m.tiers ≤ most_tiers → 0 < m.stops → NoneAdmitted m → (any : ℕ) (rs : List (List ℕ)) (cost : ℤ) → Plan m.stops ground_of any rs cost → ⊥
   no_plan few some none any [] cost p = let e = p.once 1 (omega arith, some) in omega arith
   no_plan few some none any (r ∷ rs) cost p =
       let y = pays few any (r ∷ rs) cost p in
       let b = and_then_some (reduced_cost m r) (λ x. plus x (total (reduced_cost m) rs)) y.sum y.admitted in
       none r p.routes.0 (b.first, b.is)
 
-  found_right : m.tiers ≤ most_tiers → 0 < m.stops → (t : Table S) (o : Option (Finished S)) → Found m t o → Right m ground vans (found m vans t o)
+  found_right : m.tiers ≤ most_tiers → 0 < m.stops → (t : Table S) (o : Option (Finished S)) → Found m t o → Right m ground_of vans (found m vans t o)
   found_right few some t None a = record { none_admitted = a; no_plan = no_plan few some a }
   found_right few some t (Some b) a = record {
     is_route = a.0.route;
@@ -70,7 +70,7 @@ module _ {S : Type 0} (m : Answers S) (ground : List ℕ → Option ℤ) (pays :
     some_admitted = λ none. none (route_to t b.last) a.0.route (b.total, a.0.admitted);
     none_cheaper = a.1;
     floor_is = refl;
-    plans_above = floor_under m b.total a.1 vans ground few pays;
+    plans_above = floor_under m b.total a.1 vans ground_of few pays;
   }
 
 -- what a price that is not refused early may take for granted
@@ -107,10 +107,10 @@ allowed_or m vans places row P barred allowed =
     })))))
 
 -- with any order
-pub priced_right : {S : Type 0} (d : Meaning S) (v : d.Value) → Laws d v → (earlier : S → S → Bool) (vans places row : ℕ) → Right (d.answers v) (d.ground v) vans (priced (d.answers v) earlier vans places row)
+pub priced_right : {S : Type 0} (d : Meaning S) (v : d.Value) → Laws d v → (earlier : S → S → Bool) (vans places row : ℕ) → Right (d.answers v) (d.ground_of v) vans (priced (d.answers v) earlier vans places row)
 priced_right {S} d v laws earlier vans places row =
-    allowed_or (d.answers v) vans places row (λ o. Right (d.answers v) (d.ground v) vans (unless_refused o (labelled (d.answers v) vans (labelling (d.answers v) earlier places)))) (λ n. tt) (λ a. by a (labelling (d.answers v) earlier places) refl)
+    allowed_or (d.answers v) vans places row (λ o. Right (d.answers v) (d.ground_of v) vans (unless_refused o (labelled (d.answers v) vans (labelling (d.answers v) earlier places)))) (λ n. tt) (λ a. by a (labelling (d.answers v) earlier places) refl)
   where
-    by : Allowed (d.answers v) vans places row → (o : Option (Table S)) → labelling (d.answers v) earlier places ≡ o → Right (d.answers v) (d.ground v) vans (labelled (d.answers v) vans o)
+    by : Allowed (d.answers v) vans places row → (o : Option (Table S)) → labelling (d.answers v) earlier places ≡ o → Right (d.answers v) (d.ground_of v) vans (labelled (d.answers v) vans o)
     by a None e = tt
-    by a (Some t) e = found_right (d.answers v) (d.ground v) laws.plans vans a.few_tiers a.some_stops t t.best (finds_lowest (d.answers v) earlier places t laws.gaps a.some_places e)
+    by a (Some t) e = found_right (d.answers v) (d.ground_of v) laws.plans vans a.few_tiers a.some_stops t t.best (finds_lowest (d.answers v) earlier places t laws.gaps a.some_places e)

@@ -98,10 +98,10 @@ module _ {S : Type 0} (d : Meaning S) (vans : ℕ) (v : d.Value) (lawful : Lawfu
   comes_after w (price p r) h = h
 
   kept_same : (w : d.Value) → Kept d w w
-  kept_same w = record { stops = refl; tiers = refl; ground = refl }
+  kept_same w = record { stops = refl; tiers = refl; ground_of = refl }
 
   kept_twice : (w x y : d.Value) → Kept d w x → Kept d x y → Kept d w y
-  kept_twice w x y a b = record { stops = b.stops ∙ a.stops; tiers = b.tiers ∙ a.tiers; ground = b.ground ∙ a.ground }
+  kept_twice w x y a b = record { stops = b.stops ∙ a.stops; tiers = b.tiers ∙ a.tiers; ground_of = b.ground_of ∙ a.ground_of }
 
   kept_after : (w : d.Value) (c : Call) → Comes d v w → Kept d w (after w c)
   kept_after w (set i j a) h = by (d.sets w i j a) refl
@@ -124,9 +124,9 @@ module _ {S : Type 0} (d : Meaning S) (vans : ℕ) (v : d.Value) (lawful : Lawfu
   pub keeps_after : (cs : List Call) → Kept d v (left d vans v cs)
   keeps_after cs = left_kept v cs here (kept_same v)
 
-  right_at : (w : d.Value) (c : Call) → Comes d v w → Right (d.answers w) (d.ground w) vans (step d vans w c).0
-  right_at w (set i j a) h = told_right (d.answers w) (d.ground w) vans (d.sets w i j a)
-  right_at w (tighten i j s a) h = told_right (d.answers w) (d.ground w) vans (d.tightens w i j s a)
+  right_at : (w : d.Value) (c : Call) → Comes d v w → Right (d.answers w) (d.ground_of w) vans (step d vans w c).0
+  right_at w (set i j a) h = told_right (d.answers w) (d.ground_of w) vans (d.sets w i j a)
+  right_at w (tighten i j s a) h = told_right (d.answers w) (d.ground_of w) vans (d.tightens w i j s a)
   right_at w (price p r) h = priced_right d w (lawful w h) (by_key (d.answers w)) vans p r
 
   tightened_after : (w : d.Value) (c : Call) → Comes d v w → is_taken_set c (step d vans w c).0 ≡ false → Tightened (d.answers w) (d.answers (after w c))
@@ -144,7 +144,7 @@ module _ {S : Type 0} (d : Meaning S) (vans : ℕ) (v : d.Value) (lawful : Lawfu
 
   -- A RUN
 
-  all_right : (w : d.Value) (cs : List Call) → Comes d v w → All (λ e. Right (d.answers e.value) (d.ground e.value) vans e.answer) (run d vans w cs)
+  all_right : (w : d.Value) (cs : List Call) → Comes d v w → All (λ e. Right (d.answers e.value) (d.ground_of e.value) vans e.answer) (run d vans w cs)
   all_right w [] h = tt
   all_right w (c ∷ cs) h = (right_at w c h, all_right (after w c) cs (comes_after w c h))
 
@@ -194,7 +194,7 @@ module _ {S : Type 0} (d : Meaning S) (vans : ℕ) (v : d.Value) (lawful : Lawfu
   never_below w (tighten i j s a) e h l = told_no_price (d.tightens w i j s a) e.answer
   never_below w (price p r) e h l =
       subst (λ e. NotAbove (step d vans w (price p r)).0 e.answer) l.is
-      (not_above (d.answers w) (d.answers l.at) (d.ground w) (d.ground l.at) vans (step d vans w (price p r)).0 (step d vans l.at l.call).0 l.tightened (right_at w (price p r) h) (right_at l.at l.call l.comes))
+      (not_above (d.answers w) (d.answers l.at) (d.ground_of w) (d.ground_of l.at) vans (step d vans w (price p r)).0 (step d vans l.at l.call).0 l.tightened (right_at w (price p r) h) (right_at l.at l.call l.comes))
 
   pub keeps_promise : (calls : List Call) → Promise d vans v (run d vans v calls)
   keeps_promise calls = record {

@@ -17,7 +17,7 @@ abbrev pub NoneAdmitted : {S : Type 0} → Answers S → Type 0
 NoneAdmitted m = (r : List ℕ) → Route m.stops r → Admitted m r → ⊥
 
 -- "Lowest cost, by this route; no plan is below this floor."
-pub record RightLowest {S : Type 0} (m : Answers S) (ground : List ℕ → Option ℤ) (vans : ℕ) (cost : ℤ) (route : List ℕ) (floor : ℤ) : Type 0 where
+pub record RightLowest {S : Type 0} (m : Answers S) (ground_of : List ℕ → Option ℤ) (vans : ℕ) (cost : ℤ) (route : List ℕ) (floor : ℤ) : Type 0 where
   -- the route is one, and it is admitted, at exactly this cost
   pub is_route : Route m.stops route
   pub admitted : reduced_cost m route ≡ Some cost
@@ -28,21 +28,21 @@ pub record RightLowest {S : Type 0} (m : Answers S) (ground : List ℕ → Optio
   -- the floor is the credit, and for each van the lesser of 0 and the lowest
   pub floor_is : floor ≡ m.credit +ℤ (pos vans *ℤ int_min (pos 0) cost)
   -- every plan for these vans costs at least the floor
-  pub plans_above : (rs : List (List ℕ)) (c : ℤ) → Plan m.stops ground vans rs c → floor ≤ℤ c
+  pub plans_above : (rs : List (List ℕ)) (c : ℤ) → Plan m.stops ground_of vans rs c → floor ≤ℤ c
 
 -- "There is no route."
-pub record RightNoRoute {S : Type 0} (m : Answers S) (ground : List ℕ → Option ℤ) (vans : ℕ) : Type 0 where
+pub record RightNoRoute {S : Type 0} (m : Answers S) (ground_of : List ℕ → Option ℤ) (vans : ℕ) : Type 0 where
   -- none is admitted
   pub none_admitted : NoneAdmitted m
   -- and there is no plan, whatever the number of vans
-  pub no_plan : (any : ℕ) (rs : List (List ℕ)) (c : ℤ) → Plan m.stops ground any rs c → ⊥
+  pub no_plan : (any : ℕ) (rs : List (List ℕ)) (c : ℤ) → Plan m.stops ground_of any rs c → ⊥
 
 -- An answer is right. Of the prices that are not refused, "no route" is answered exactly when none is admitted.
 abbrev pub Right : {S : Type 0} → Answers S → (List ℕ → Option ℤ) → ℕ → Answer → Type 0
-Right m ground vans call_taken = Unit {0}
-Right m ground vans (call_refused n) = Unit {0}
-Right m ground vans (lowest cost route floor counts) = RightLowest m ground vans cost route floor
-Right m ground vans (no_route counts) = RightNoRoute m ground vans
+Right m ground_of vans call_taken = Unit {0}
+Right m ground_of vans (call_refused n) = Unit {0}
+Right m ground_of vans (lowest cost route floor counts) = RightLowest m ground_of vans cost route floor
+Right m ground_of vans (no_route counts) = RightNoRoute m ground_of vans
 
 -- TWO PRICES
 
@@ -74,7 +74,7 @@ NotAbove (no_route k) (no_route k') = Unit {0}
 -- of the entries of a run that was opened at v
 pub record Promise {S : Type 0} (d : Meaning S) (vans : ℕ) (v : d.Value) (entries : List (Entry d.Value)) : Type 0 where
   -- every answer is right, by the pile as it stood at the call
-  pub right : All (λ e. Right (d.answers e.value) (d.ground e.value) vans e.answer) entries
+  pub right : All (λ e. Right (d.answers e.value) (d.ground_of e.value) vans e.answer) entries
   -- the stops, the tiers and the ground are those of the opening, so the plans are the same all along
   pub kept : All (λ e. Kept d v e.value) entries
   -- of any two entries with no taken set between them, the lowest of the later is not below that of the earlier

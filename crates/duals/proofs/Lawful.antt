@@ -122,7 +122,7 @@ module _ {D S : Type 0} (base : D → Base S) (x : D) (l : BaseLaws (base x)) wh
   set_keeps : (v w : BottomValue D) (tier index : ℕ) (amount : ℤ) → (bottom base).sets v tier index amount ≡ taken w → Kept (bottom base) v w
   set_keeps v w tier index amount e =
       let i = lifted_taken (bottom_at v.origin) (set_dual (base v.origin).stops v.duals tier index amount) w e in
-      subst (Kept (bottom base) v) i.same (record { stops = refl; tiers = refl; ground = refl })
+      subst (Kept (bottom base) v) i.same (record { stops = refl; tiers = refl; ground_of = refl })
 
   one_value : (v : BottomValue D) → Held v → Laws (bottom base) v
   one_value v h =

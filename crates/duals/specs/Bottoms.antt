@@ -56,7 +56,7 @@ abbrev pub bottom : {D S : Type 0} → (D → Base S) → Meaning S
 bottom {D} base = record {
   Value = BottomValue D;
   answers = λ v. with_duals (base v.origin) (dual_of v.duals);
-  ground = λ v. reduced_cost (plain (base v.origin));
+  ground_of = λ v. reduced_cost (plain (base v.origin));
   sets = λ v tier index amount. lifted (bottom_at v.origin) (set_dual (base v.origin).stops v.duals tier index amount);
   tightens = λ v tier index set amount. refused (tighten_refusal tier);
 }

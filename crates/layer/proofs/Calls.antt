@@ -64,7 +64,7 @@ module _ {S M T Table : Type 0} (pair : Pairing S M T) (kind : Kind Table M) (Go
     stops = λ v. refl;
     tiers = λ v. refl;
     start_key = λ v. ap (d.answers v.under).key (pair.below_join (d.answers v.under).start (kind.own_of v.table).first);
-    ground = λ v. refl;
+    ground_of = λ v. refl;
     set_below = λ v w tier index amount e.
         changed_below v.under v.table (own_set_at pair kind d v index amount) (d.sets v.under tier index amount) w
         (set_changed pair kind d v w tier index amount e);

@@ -38,8 +38,8 @@ module _ {S M T : Type 0} (pair : Pairing S M T) (m : Answers S) (o : Own M) (fe
       ap (λ x. and_then x (λ y. plus y (total (reduced_cost (over pair m o)) rs))) here ∙ ap (plus (pos w.first +ℤ a.first)) rest ∙ ap Some (omega (arith, ints))
 
   -- plans pay on the layer: the own charges of a plan are at most the penalties
-  pub over_plans : (ground : List ℕ → Option ℤ) → PlansPay m ground → PlansPay (over pair m o) ground
-  over_plans ground l _ vans rs cost plan =
+  pub over_plans : (ground_of : List ℕ → Option ℤ) → PlansPay m ground_of → PlansPay (over pair m o) ground_of
+  over_plans ground_of l _ vans rs cost plan =
       let p = l (fewer_below m.tiers few) vans rs cost plan in
       let w = own.plan_walks rs plan.routes plan.once in
       let small = w.small in

@@ -50,7 +50,7 @@ module _ {S M T Table : Type 0} (pair : Pairing S M T) (kind : Kind Table M) (Go
         gaps = over_gaps pair m o few l.sizes own l.interface l.gaps;
         sizes = over_sizes pair m o few l.sizes own;
         keys = over_keys pair m o l.keys;
-        plans = over_plans pair m o few l.sizes own (d.ground v.under) l.plans;
+        plans = over_plans pair m o few l.sizes own (d.ground_of v.under) l.plans;
         tighten_no_cheaper = λ w tier index set amount e. made_no_cheaper v w tier index set amount l h few e;
       }
 

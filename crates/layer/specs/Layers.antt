@@ -58,7 +58,7 @@ module _ {S M T Table : Type 0} (pair : Pairing S M T) (kind : Kind Table M) whe
   open_layer d = record {
     Value = LayerValue d.Value Table;
     answers = λ v. over pair (d.answers v.under) (kind.own_of v.table);
-    ground = λ v. d.ground v.under;
+    ground_of = λ v. d.ground_of v.under;
     sets = λ v tier index amount.
         own_or_below (higher (d.answers v.under).tiers) tier
         (lifted (layer_at v.under) (kind.own_set (d.answers v.under).stops v.table index amount))

@@ -56,7 +56,7 @@ abbrev pub counter : Meaning Count
 counter = record {
   Value = Limits;
   answers = count_answers;
-  ground = λ v. reduced_cost (count_answers v);
+  ground_of = λ v. reduced_cost (count_answers v);
   sets = λ v tier index amount. never tier;
   tightens = λ v tier index set amount. never tier;
 }

@@ -68,8 +68,8 @@ module _ {S : Type 0} (m : Answers S) where
     gap_orders_keys = λ i a b g stop p q e. l.gap_orders_keys i a.below b.below g stop (lower p) (lower q) e;
   }
 
-  passes_plans : (ground : List ℕ → Option ℤ) → (passes m).tiers ≤ most_tiers → PlansPay m ground → PlansPay (passes m) ground
-  passes_plans ground few l _ vans rs cost plan =
+  passes_plans : (ground_of : List ℕ → Option ℤ) → (passes m).tiers ≤ most_tiers → PlansPay m ground_of → PlansPay (passes m) ground_of
+  passes_plans ground_of few l _ vans rs cost plan =
       let p = l (fewer_below m.tiers few) vans rs cost plan in
       record { sum = p.sum; admitted = total_same (reduced_cost (passes m)) (reduced_cost m) same_cost rs ∙ p.admitted; at_most = p.at_most }
 
@@ -91,7 +91,7 @@ module _ {S : Type 0} (d : Meaning S) where
     stops = λ v. refl;
     tiers = λ v. refl;
     start_key = λ v. refl;
-    ground = λ v. refl;
+    ground_of = λ v. refl;
     set_below = λ v w tier index amount e. inr (set_below v w tier index amount e);
     tighten_below = λ v w tier index set amount e. inr (tighten_below v w tier index set amount e);
     set_holds = λ v w tier index amount l h e. tt;
@@ -107,7 +107,7 @@ module _ {S : Type 0} (d : Meaning S) where
         gaps = passes_gaps m l.gaps;
         sizes = passes_sizes m few l.sizes;
         keys = passes_keys m l.keys;
-        plans = passes_plans m (d.ground v) few l.plans;
+        plans = passes_plans m (d.ground_of v) few l.plans;
         tighten_no_cheaper = λ w tier index set amount e. passes_no_cheaper m (d.answers w) (l.tighten_no_cheaper w tier index set amount (tighten_below v w tier index set amount e));
       }
 

@@ -25,7 +25,7 @@ abbrev pub passing : {S : Type 0} → Meaning S → Meaning (Passed S)
 passing d = record {
   Value = d.Value;
   answers = λ v. passes (d.answers v);
-  ground = d.ground;
+  ground_of = d.ground_of;
   sets = λ v tier index amount. own_or_below (higher (d.answers v).tiers) tier (refused 7) (d.sets v tier index amount);
   tightens = λ v tier index set amount. own_or_below (higher (d.answers v).tiers) tier (refused 7) (d.tightens v tier index set amount);
 }

@@ -82,7 +82,7 @@ pub record Layer {S T : Type 0} (d : Meaning S) (up : Meaning T) (below : up.Val
   pub stops : (v : up.Value) → (up.answers v).stops ≡ (d.answers (below v)).stops
   pub tiers : (v : up.Value) → (up.answers v).tiers ≡ higher (d.answers (below v)).tiers
   pub start_key : (v : up.Value) → (up.answers v).key (up.answers v).start ≡ (d.answers (below v)).key (d.answers (below v)).start
-  pub ground : (v : up.Value) → up.ground v ≡ d.ground (below v)
+  pub ground_of : (v : up.Value) → up.ground_of v ≡ d.ground_of (below v)
   -- a taken call changes nothing below, or is taken below
   pub set_below : (v w : up.Value) (tier index : ℕ) (amount : ℤ) → up.sets v tier index amount ≡ taken w → (below v ≡ below w) ⊎ (d.sets (below v) tier index amount ≡ taken (below w))
   pub tighten_below : (v w : up.Value) (tier index set : ℕ) (amount : ℤ) → up.tightens v tier index set amount ≡ taken w → (below v ≡ below w) ⊎ (d.tightens (below v) tier index set amount ≡ taken (below w))
@@ -91,14 +91,14 @@ pub record Layer {S T : Type 0} (d : Meaning S) (up : Meaning T) (below : up.Val
   pub tighten_holds : (v w : up.Value) (tier index set : ℕ) (amount : ℤ) → Laws d (below v) → Holds v → up.tightens v tier index set amount ≡ taken w → Holds w
 
 unchanged : {S : Type 0} (d : Meaning S) (v : d.Value) → Kept d v v
-unchanged d v = record { stops = refl; tiers = refl; ground = refl }
+unchanged d v = record { stops = refl; tiers = refl; ground_of = refl }
 
 module _ {S T : Type 0} (d : Meaning S) (up : Meaning T) (below : up.Value → d.Value) (Holds : up.Value → Type 0) (layer : Layer d up below Holds) where
   kept_above : (v w : up.Value) → Kept d (below v) (below w) → Kept up v w
   kept_above v w k = record {
     stops = layer.stops w ∙ k.stops ∙ sym (layer.stops v);
     tiers = layer.tiers w ∙ ap higher k.tiers ∙ sym (layer.tiers v);
-    ground = layer.ground w ∙ k.ground ∙ sym (layer.ground v);
+    ground_of = layer.ground_of w ∙ k.ground_of ∙ sym (layer.ground_of v);
   }
 
   always : (v : up.Value) → Laws d (below v) → OwedAtAnyHeight up v

@@ -83,15 +83,15 @@ pub record OwedUpToFour {S : Type 0} (d : Meaning S) (v : d.Value) : Type 0 wher
   pub gaps : GapLaws (d.answers v)
   pub sizes : SizeLaws (d.answers v)
   pub keys : KeyLaws (d.answers v)
-  pub plans : PlansPay (d.answers v) (d.ground v)
+  pub plans : PlansPay (d.answers v) (d.ground_of v)
   pub tighten_no_cheaper : (w : d.Value) (tier index set : ℕ) (amount : ℤ) → d.tightens v tier index set amount ≡ taken w → NoCheaper (d.answers v) (d.answers w)
 
 module _ {S : Type 0} (d : Meaning S) (v : d.Value) (always : OwedAtAnyHeight d v) where
   set_keeps : (w : d.Value) (tier index : ℕ) (amount : ℤ) → d.sets v tier index amount ≡ taken w → Kept (shut_above_four d) v w
-  set_keeps w tier index amount e = let k = always.set_keeps w tier index amount e in record { stops = k.stops; tiers = k.tiers; ground = k.ground }
+  set_keeps w tier index amount e = let k = always.set_keeps w tier index amount e in record { stops = k.stops; tiers = k.tiers; ground_of = k.ground_of }
 
   tighten_keeps : (w : d.Value) (tier index set : ℕ) (amount : ℤ) → d.tightens v tier index set amount ≡ taken w → Kept (shut_above_four d) v w
-  tighten_keeps w tier index set amount e = let k = always.tighten_keeps w tier index set amount e in record { stops = k.stops; tiers = k.tiers; ground = k.ground }
+  tighten_keeps w tier index set amount e = let k = always.tighten_keeps w tier index set amount e in record { stops = k.stops; tiers = k.tiers; ground_of = k.ground_of }
 
   laws_low : (d.answers v).tiers ≤ most_tiers → OwedUpToFour d v → Laws (shut_above_four d) v
   laws_low few l =
@@ -101,7 +101,7 @@ module _ {S : Type 0} (d : Meaning S) (v : d.Value) (always : OwedAtAnyHeight d 
         gaps = subst GapLaws same l.gaps;
         sizes = subst SizeLaws same l.sizes;
         keys = subst KeyLaws same l.keys;
-        plans = subst (λ m. PlansPay m (d.ground v)) same l.plans;
+        plans = subst (λ m. PlansPay m (d.ground_of v)) same l.plans;
         tighten_no_cheaper = λ w tier index set amount e.
             let t = (always.tighten_keeps w tier index set amount e).tiers in
             let after = same_up_to_four (d.answers w) (omega arith) in

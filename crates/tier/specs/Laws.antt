@@ -108,7 +108,7 @@ pub record Pays {S : Type 0} (m : Answers S) (rs : List (List ℕ)) (cost : ℤ)
 -- 7: up to four tiers, whatever the number of vans, every plan is admitted and costs at least the credit and
 -- the sum of its reduced costs
 abbrev pub PlansPay : {S : Type 0} → Answers S → (List ℕ → Option ℤ) → Type 0
-PlansPay m ground = m.tiers ≤ most_tiers → (vans : ℕ) (rs : List (List ℕ)) (cost : ℤ) → Plan m.stops ground vans rs cost → Pays m rs cost
+PlansPay m ground_of = m.tiers ≤ most_tiers → (vans : ℕ) (rs : List (List ℕ)) (cost : ℤ) → Plan m.stops ground_of vans rs cost → Pays m rs cost
 
 -- every route that `after` admits was admitted before, at no greater reduced cost
 abbrev pub NoCheaper : {S : Type 0} → Answers S → Answers S → Type 0
@@ -118,7 +118,7 @@ NoCheaper before after = (r : List ℕ) (c : ℤ) → Route after.stops r → re
 pub record Kept {S : Type 0} (d : Meaning S) (v w : d.Value) : Type 0 where
   pub stops : (d.answers w).stops ≡ (d.answers v).stops
   pub tiers : (d.answers w).tiers ≡ (d.answers v).tiers
-  pub ground : d.ground w ≡ d.ground v
+  pub ground_of : d.ground_of w ≡ d.ground_of v
 
 -- what is owed by one value
 pub record Laws {S : Type 0} (d : Meaning S) (v : d.Value) : Type 0 where
@@ -126,7 +126,7 @@ pub record Laws {S : Type 0} (d : Meaning S) (v : d.Value) : Type 0 where
   pub gaps : GapLaws (d.answers v)
   pub sizes : SizeLaws (d.answers v)
   pub keys : KeyLaws (d.answers v)
-  pub plans : PlansPay (d.answers v) (d.ground v)
+  pub plans : PlansPay (d.answers v) (d.ground_of v)
   -- 8: a taken tighten admits no new route, and none for less
   pub tighten_no_cheaper : (w : d.Value) (tier index set : ℕ) (amount : ℤ) → d.tightens v tier index set amount ≡ taken w → NoCheaper (d.answers v) (d.answers w)
   -- 9: a taken call keeps stops, tiers and ground. (That questions and refused calls change nothing, and that

@@ -30,7 +30,7 @@ abbrev pub shut_above_four : {S : Type 0} → Meaning S → Meaning S
 shut_above_four d = record {
   Value = d.Value;
   answers = λ v. up_to_four (d.answers v);
-  ground = d.ground;
+  ground_of = d.ground_of;
   sets = d.sets;
   tightens = d.tightens;
 }

@@ -19,7 +19,7 @@ pub record Meaning (S : Type 0) : Type 1 where
   pub answers : Value → Answers S
   -- the leg costs of a route that can be driven, None of one that cannot: for a bottom its replay with all
   -- duals 0, for a layer the ground below; each tier's own definition fixes it
-  pub ground : Value → List ℕ → Option ℤ
+  pub ground_of : Value → List ℕ → Option ℤ
   -- of a value, tier, index and amount. (Numbers are not bounded here; the code's calls have words.)
   pub sets : Value → ℕ → ℕ → ℤ → Outcome Value
   -- of a value, tier, index, set of stops and amount

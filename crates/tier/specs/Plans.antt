@@ -17,8 +17,8 @@ total f (r ∷ rs) = and_then (f r) (λ x. plus x (total f rs))
 -- A plan over n stops: at most `vans` routes, each admitted by the ground, that together visit every stop
 -- exactly once. The ground gives the leg costs of a route that can be driven, the way home included; `cost` is
 -- what the routes cost together.
-pub record Plan (n : ℕ) (ground : List ℕ → Option ℤ) (vans : ℕ) (rs : List (List ℕ)) (cost : ℤ) : Type 0 where
+pub record Plan (n : ℕ) (ground_of : List ℕ → Option ℤ) (vans : ℕ) (rs : List (List ℕ)) (cost : ℤ) : Type 0 where
   pub routes : All (Route n) rs
   pub few : length rs ≤ vans
   pub once : (j : ℕ) → Stop n j → visits j rs ≡ 1
-  pub costs : total ground rs ≡ Some cost
+  pub costs : total ground_of rs ≡ Some cost

@@ -2,10 +2,10 @@ use Rattle.std.proofs.Common.{◌<◌, sym, ◌∙◌, arith}
 use Rattle.tier.specs.Meaning.{here}
 use Rattle.ng.proofs.NgTier.reach.Given as given
 use Rattle.ng.proofs.NgTier.reach.Goals as goal
-use Rattle.ng.proofs.NgTier.reach.Goals.{In-ok-below}
+use Rattle.ng.proofs.NgTier.reach.Goals.{In_ok-below}
 
 -- the tier below reaches only its stops, and from its places, of which there are at most 61
-places : (g : given.Over) (c : In-ok-below g) → (c.args.from < 61) × (c.args.to < 61)
+places : (g : given.Over) (c : In_ok-below g) → (c.args.from < 61) × (c.args.to < 61)
 places g c =
     let t = c.args.self.now.below in
     let laws = g.met.B.Tier.lawful t (g.B.Tier.value t) here in
@@ -16,7 +16,7 @@ places g c =
     (omega arith, omega arith)
 
 pub neighbours-requires : goal.neighbours-requires
-neighbours-requires g c = let p = places g (goal.at.neighbours-requires g c).In-ok-below in omega arith
+neighbours-requires g c = let p = places g (goal.at.neighbours-requires g c).In_ok-below in omega arith
 
 pub remembered-memory-requires : goal.remembered-memory-requires
-remembered-memory-requires g c = let p = places g (goal.at.remembered-memory-requires g c).In-ok-below in omega arith
+remembered-memory-requires g c = let p = places g (goal.at.remembered-memory-requires g c).In_ok-below in omega arith

@@ -5,9 +5,9 @@ use Rattle.tier.specs.Routes.{plus}
 use Rattle.tier.proofs.Walks.{finish_bound}
 use Rattle.tier.proofs.replays.go_home.Given as given
 use Rattle.tier.proofs.replays.go_home.Goals as goal
-use Rattle.tier.proofs.replays.go_home.Goals.{In-ok-home}
+use Rattle.tier.proofs.replays.go_home.Goals.{In_ok-home}
 
-home_small : (g : given.Over) (c : In-ok-home g) → nat_abs c.in_ok-home.home ≤ 2 ^ 38
+home_small : (g : given.Over) (c : In_ok-home g) → nat_abs c.in_ok-home.home ≤ 2 ^ 38
 home_small g c =
     let t = c.args.tier.now in
     let m = g.T.Tier.meaning.answers (g.T.Tier.value t) in
@@ -16,13 +16,13 @@ home_small g c =
 
 pub overflow_add-result : goal.overflow_add-result
 overflow_add-result g c =
-    let h = home_small g (goal.at.overflow_add-result g c).In-ok-home in
+    let h = home_small g (goal.at.overflow_add-result g c).In_ok-home in
     let s = c.requires.small in
     omega (arith, ints)
 
 pub returns : goal.returns
 returns g c =
-    let h = home_small g (goal.at.returns g c).In-ok-home in
+    let h = home_small g (goal.at.returns g c).In_ok-home in
     let s = c.requires.small in
     let e = sym c.finish.ensures ∙ c.in_ok-home.was in
     sym (ap (plus c.args.cost) e ∙ ap Some (omega (arith, ints)))
