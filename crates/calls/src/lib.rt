@@ -24,14 +24,14 @@ pub const ROW_LENGTH: usize = 1440;
 ///
 /// The promises of a sitting on this pile stand here, for every number of vans and all calls.
 pub fn refuse_early<T: Tier>(pile: &T, vans: usize, places: usize, row: usize) -> Option<u8>
-    ensures refusal { result ≡ early_refusal (meaning.answers (value pile.now)) vans places row }
-    ensures promises { Promises meaning (value pile.now) }
+    ensures refusal { result ≡ early_refusal (T.meaning.answers (T.value pile.now)) vans places row }
+    ensures promises { Promises T.meaning (T.value pile.now) }
 {
     first_refusal(pile, vans, places, row)
 }
 
 fn first_refusal<T: Tier>(pile: &T, vans: usize, places: usize, row: usize) -> Option<u8>
-    ensures { result ≡ early_refusal (meaning.answers (value pile.now)) vans places row }
+    ensures { result ≡ early_refusal (T.meaning.answers (T.value pile.now)) vans places row }
 {
     if pile.tiers() > MOST_TIERS {
         return Some(1);

@@ -5,7 +5,7 @@ use Rattle.labelling.proofs.row_length.Goals as goal
 
 pub returns : goal.returns
 returns g c = record {
-  length = c.greatest_key.ensures;
+  length = c.last_key.ensures;
   moments = every_moment;
   lowest = finds_lowest;
   small = λ m earlier places t few sizes keys p. stays_small m keys few sizes earlier places t p;

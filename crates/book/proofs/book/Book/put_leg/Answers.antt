@@ -23,4 +23,10 @@ invariant_of-self c =
     let few = few_stops t.stops t.fleet t.fleets in
     let k = taken_leg (contents t) c.args.from c.args.to c.args.leg c.if-driven.ensures c.if-from-to.true in
     let between = apart_of t.stops c.args.from c.args.to k.from k.to c.if-from-to.true in
-    (t.fleets, (t.visiting, (legs_put t.stops t.legs c.args.from c.args.to c.args.leg few between k.fits t.driving, (t.places, (length-set t.legs (c.args.from * 61 + c.args.to) c.args.leg ∙ t.pairs, tt)))))
+    record {
+      fleets = t.fleets;
+      visiting = t.visiting;
+      driving = legs_put t.stops t.legs c.args.from c.args.to c.args.leg few between k.fits t.driving;
+      places = t.places;
+      pairs = length-set t.legs (c.args.from * 61 + c.args.to) c.args.leg ∙ t.pairs;
+    }

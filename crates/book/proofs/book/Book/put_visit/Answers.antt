@@ -7,4 +7,10 @@ pub invariant_of-self : goal.invariant_of-self
 invariant_of-self c =
     let t = c.args.self.now in
     let k = taken_visit (contents t) c.args.stop c.args.visit c.if-visited.ensures in
-    (t.fleets, (visits_put t.stops t.visits c.args.stop c.args.visit k.stop k.fits t.visiting, (t.driving, (length-set t.visits c.args.stop c.args.visit ∙ t.places, (t.pairs, tt)))))
+    record {
+      fleets = t.fleets;
+      visiting = visits_put t.stops t.visits c.args.stop c.args.visit k.stop k.fits t.visiting;
+      driving = t.driving;
+      places = length-set t.visits c.args.stop c.args.visit ∙ t.places;
+      pairs = t.pairs;
+    }
