@@ -4,7 +4,7 @@ use Rattle.tier.specs.Meaning.{Meaning}
 use Rattle.layer.specs.Layers.{Pairing, Kind, layer}
 use Rattle.cuts.specs.declared.bits.Bits.{Bits}
 use Rattle.cuts.specs.declared.cut.Cut.{Cut}
-use Rattle.cuts.specs.declared.layer.CutsState.{CutsState}
+use Rattle.cuts.specs.declared.cuts_layer.CutsState.{CutsState}
 use Rattle.cuts.specs.Cuts.{cuts_own}
 use Rattle.cuts.specs.Tables.{set_penalty, tighten_cut}
 

@@ -8,8 +8,8 @@ mod asks;
 mod bits;
 mod calls;
 mod cut;
-mod layer;
+mod cuts_layer;
 mod table;
 
 pub use bits::Bits;
-pub use layer::{Cuts, CutsState};
+pub use cuts_layer::{Cuts, CutsState};

@@ -34,8 +34,8 @@ fn sooner(a: Candidate, b: Option<Candidate>) -> Candidate
 
 /// The place of the waiting label of least key, on ties of least number; `None` if none waits.
 pub(crate) fn choose<T: Tier>(tier: &T, store: &[Label<T::State>], used: usize) -> Option<usize>
-    requires { Unused (meaning.answers (value tier.now)).start used store.now }
-    ensures first { Picks (reading (meaning.answers (value tier.now)).start) (λ l. (meaning.answers (value tier.now)).key l.state) store.now result }
+    requires { Unused (T.meaning.answers (T.value tier.now)).start used store.now }
+    ensures first { Picks (reading (T.meaning.answers (T.value tier.now)).start) (λ l. (T.meaning.answers (T.value tier.now)).key l.state) store.now result }
     ensures within { IfSome result (λ i. i < used) }
 {
     let mut best: Option<Candidate> = None;

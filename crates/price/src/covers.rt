@@ -9,7 +9,7 @@ use tier::Tier;
 
 // Stop and cost are compared first: a gap is dear to ask for, and never below 0.
 pub(crate) fn covers<T: Tier>(tier: &T, k: &Label<T::State>, l: &Label<T::State>) -> bool
-    ensures { result ≡ «covers_of» (meaning.answers (value tier.now)) (view k.now) (view l.now) }
+    ensures { result ≡ «covers_of» (T.meaning.answers (T.value tier.now)) (view k.now) (view l.now) }
 {
     if k.stop != l.stop || k.cost > l.cost {
         return false;

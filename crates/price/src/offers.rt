@@ -21,11 +21,11 @@ pub(crate) fn offer<T: Tier>(
     progress: &mut Progress,
     label: &Label<T::State>,
 ) -> Result<(), Crowded>
-    requires unused { Unused (meaning.answers (value tier.now)).start progress.old.used store.old }
+    requires unused { Unused (T.meaning.answers (T.value tier.now)).start progress.old.used store.old }
     requires short { length store.old ≤ 2 ^ 18 }
     requires few { Few (2 ^ 40) progress.old }
-    ensures step { outcome (is_ok result) store.new progress.new ≡ offer_at (writing (meaning.answers (value tier.now)).start) (meaning.answers (value tier.now)) label.now (work store.old progress.old) }
-    ensures goes { Goes_on (meaning.answers (value tier.now)).start (is_ok result) progress.old store.new progress.new }
+    ensures step { outcome (is_ok result) store.new progress.new ≡ offer_at (writing (T.meaning.answers (T.value tier.now)).start) (T.meaning.answers (T.value tier.now)) label.now (work store.old progress.old) }
+    ensures goes { Goes_on (T.meaning.answers (T.value tier.now)).start (is_ok result) progress.old store.new progress.new }
 {
     if turned_away(tier, store, progress.used, label) {
         progress.counts.turned += 1;

@@ -12,7 +12,7 @@ use tier::Tier;
 
 // k is live, and covers l.
 fn blocks<T: Tier>(tier: &T, k: &Label<T::State>, l: &Label<T::State>) -> bool
-    ensures { result ≡ «blocks_of» (meaning.answers (value tier.now)) l.now k.now }
+    ensures { result ≡ «blocks_of» (T.meaning.answers (T.value tier.now)) l.now k.now }
 {
     k.status.live() && covers(tier, k, l)
 }
@@ -24,8 +24,8 @@ pub(crate) fn turned_away<T: Tier>(
     used: usize,
     offered: &Label<T::State>,
 ) -> bool
-    requires { Unused (meaning.answers (value tier.now)).start used store.now }
-    ensures { result ≡ covered_at (writing (meaning.answers (value tier.now)).start) (meaning.answers (value tier.now)) offered.now store.now }
+    requires { Unused (T.meaning.answers (T.value tier.now)).start used store.now }
+    ensures { result ≡ covered_at (writing (T.meaning.answers (T.value tier.now)).start) (T.meaning.answers (T.value tier.now)) offered.now store.now }
 {
     for i in 0..used {
         if blocks(tier, &store[i], offered) {
@@ -37,7 +37,7 @@ pub(crate) fn turned_away<T: Tier>(
 
 // k waits, and l covers it.
 fn falls<T: Tier>(tier: &T, l: &Label<T::State>, k: &Label<T::State>) -> bool
-    ensures { result ≡ «falls_of» (writing (meaning.answers (value tier.now)).start) (meaning.answers (value tier.now)) l.now k.now }
+    ensures { result ≡ «falls_of» (writing (T.meaning.answers (T.value tier.now)).start) (T.meaning.answers (T.value tier.now)) l.now k.now }
 {
     k.status.waits() && covers(tier, l, k)
 }
@@ -50,10 +50,10 @@ pub(crate) fn strike<T: Tier>(
     used: usize,
     offered: &Label<T::State>,
 ) -> usize
-    requires { Unused (meaning.answers (value tier.now)).start used store.old }
-    ensures struck { store.new ≡ strike_at (writing (meaning.answers (value tier.now)).start) (meaning.answers (value tier.now)) offered.now store.old }
-    ensures count { result ≡ count_by («falls_of» (writing (meaning.answers (value tier.now)).start) (meaning.answers (value tier.now)) offered.now) store.old }
-    ensures unused { Unused (meaning.answers (value tier.now)).start used store.new }
+    requires { Unused (T.meaning.answers (T.value tier.now)).start used store.old }
+    ensures struck { store.new ≡ strike_at (writing (T.meaning.answers (T.value tier.now)).start) (T.meaning.answers (T.value tier.now)) offered.now store.old }
+    ensures count { result ≡ count_by («falls_of» (writing (T.meaning.answers (T.value tier.now)).start) (T.meaning.answers (T.value tier.now)) offered.now) store.old }
+    ensures unused { Unused (T.meaning.answers (T.value tier.now)).start used store.new }
 {
     let blank = Label::blank(tier.start());
     let mut count = 0;

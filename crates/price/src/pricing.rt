@@ -35,7 +35,7 @@ pub fn refuse_early<T: Tier>(
     places: usize,
     row: usize,
 ) -> Result<(), PriceRefusal>
-    ensures { refusal result ≡ early_refusal (meaning.answers (value pile.now)) vans places row }
+    ensures { refusal result ≡ early_refusal (T.meaning.answers (T.value pile.now)) vans places row }
 {
     if pile.tiers() > MOST_TIERS {
         return Err(PriceRefusal::TooManyTiers);
@@ -54,10 +54,10 @@ pub fn refuse_early<T: Tier>(
 
 // Labels from the root on; where the places do not suffice, the store is blank.
 fn label_all<T: Tier>(pile: &T, store: &mut [Label<T::State>]) -> Result<Progress, PriceRefusal>
-    requires few { (meaning.answers (value pile.now)).tiers ≤ most_tiers }
+    requires few { (T.meaning.answers (T.value pile.now)).tiers ≤ most_tiers }
     requires places { 0 < length store.old }
     requires short { length store.old ≤ 2 ^ 18 }
-    ensures { Labelled (meaning.answers (value pile.now)) (length store.old) (labelling (meaning.answers (value pile.now)) (by_key (meaning.answers (value pile.now))) (length store.old)) result store.new }
+    ensures { Labelled (T.meaning.answers (T.value pile.now)) (length store.old) (labelling (T.meaning.answers (T.value pile.now)) (by_key (T.meaning.answers (T.value pile.now))) (length store.old)) result store.new }
 {
     let start = pile.start();
     place_root(store, start);
@@ -80,10 +80,10 @@ fn lesser(cost: i64) -> i64
 
 // The credit, and for each van the lesser of 0 and the lowest.
 fn floor<T: Tier>(pile: &T, vans: usize, cost: i64) -> i64
-    requires few { (meaning.answers (value pile.now)).tiers ≤ most_tiers }
+    requires few { (T.meaning.answers (T.value pile.now)).tiers ≤ most_tiers }
     requires vans { vans ≤ most_vans }
     requires small { unsigned_abs cost ≤ 2 ^ 50 }
-    ensures { result ≡ «floor_of» (meaning.answers (value pile.now)) vans cost }
+    ensures { result ≡ «floor_of» (T.meaning.answers (T.value pile.now)) vans cost }
 {
     pile.credit() + vans as i64 * lesser(cost)
 }
@@ -96,11 +96,11 @@ fn tell<T: Tier>(
     progress: Progress,
     row: &mut [usize],
 ) -> Priced
-    requires few { (meaning.answers (value pile.now)).tiers ≤ most_tiers }
+    requires few { (T.meaning.answers (T.value pile.now)).tiers ≤ most_tiers }
     requires vans { vans ≤ most_vans }
     requires long { greatest_key ≤ length row.old }
-    requires labelled { ToldFrom (meaning.answers (value pile.now)) (length store.now) store.now progress }
-    ensures { Tells (meaning.answers (value pile.now)) vans (length store.now) result row.old row.new }
+    requires labelled { ToldFrom (T.meaning.answers (T.value pile.now)) (length store.now) store.now progress }
+    ensures { Tells (T.meaning.answers (T.value pile.now)) vans (length store.now) result row.old row.new }
 {
     match progress.best {
         None => {
@@ -126,11 +126,11 @@ fn price_allowed<T: Tier>(
     store: &mut [Label<T::State>],
     row: &mut [usize],
 ) -> Result<Priced, PriceRefusal>
-    requires { None ≡ early_refusal (meaning.answers (value pile.now)) vans (length store.old) (length row.old) }
-    ensures answer { answered result row.new ≡ priced (meaning.answers (value pile.now)) (by_key (meaning.answers (value pile.now))) vans (length store.old) (length row.old) }
-    ensures stops { stops_told result ≡ stops_in (priced (meaning.answers (value pile.now)) (by_key (meaning.answers (value pile.now))) vans (length store.old) (length row.old)) }
-    ensures row { row.new ≡ row_after (priced (meaning.answers (value pile.now)) (by_key (meaning.answers (value pile.now))) vans (length store.old) (length row.old)) row.old }
-    ensures store { StoreAfter (meaning.answers (value pile.now)) (early_refusal (meaning.answers (value pile.now)) vans (length store.old) (length row.old)) (labelling (meaning.answers (value pile.now)) (by_key (meaning.answers (value pile.now))) (length store.old)) store.old store.new }
+    requires { None ≡ early_refusal (T.meaning.answers (T.value pile.now)) vans (length store.old) (length row.old) }
+    ensures answer { answered result row.new ≡ priced (T.meaning.answers (T.value pile.now)) (by_key (T.meaning.answers (T.value pile.now))) vans (length store.old) (length row.old) }
+    ensures stops { stops_told result ≡ stops_in (priced (T.meaning.answers (T.value pile.now)) (by_key (T.meaning.answers (T.value pile.now))) vans (length store.old) (length row.old)) }
+    ensures row { row.new ≡ row_after (priced (T.meaning.answers (T.value pile.now)) (by_key (T.meaning.answers (T.value pile.now))) vans (length store.old) (length row.old)) row.old }
+    ensures store { StoreAfter (T.meaning.answers (T.value pile.now)) (early_refusal (T.meaning.answers (T.value pile.now)) vans (length store.old) (length row.old)) (labelling (T.meaning.answers (T.value pile.now)) (by_key (T.meaning.answers (T.value pile.now))) (length store.old)) store.old store.new }
 {
     match label_all(pile, store) {
         Ok(progress) => Ok(tell(pile, vans, store, progress, row)),
@@ -149,10 +149,10 @@ pub fn price<T: Tier>(
     store: &mut [Label<T::State>],
     row: &mut [usize],
 ) -> Result<Priced, PriceRefusal>
-    ensures answer { answered result row.new ≡ priced (meaning.answers (value pile.now)) (by_key (meaning.answers (value pile.now))) vans (length store.old) (length row.old) }
-    ensures stops { stops_told result ≡ stops_in (priced (meaning.answers (value pile.now)) (by_key (meaning.answers (value pile.now))) vans (length store.old) (length row.old)) }
-    ensures row { row.new ≡ row_after (priced (meaning.answers (value pile.now)) (by_key (meaning.answers (value pile.now))) vans (length store.old) (length row.old)) row.old }
-    ensures store { StoreAfter (meaning.answers (value pile.now)) (early_refusal (meaning.answers (value pile.now)) vans (length store.old) (length row.old)) (labelling (meaning.answers (value pile.now)) (by_key (meaning.answers (value pile.now))) (length store.old)) store.old store.new }
+    ensures answer { answered result row.new ≡ priced (T.meaning.answers (T.value pile.now)) (by_key (T.meaning.answers (T.value pile.now))) vans (length store.old) (length row.old) }
+    ensures stops { stops_told result ≡ stops_in (priced (T.meaning.answers (T.value pile.now)) (by_key (T.meaning.answers (T.value pile.now))) vans (length store.old) (length row.old)) }
+    ensures row { row.new ≡ row_after (priced (T.meaning.answers (T.value pile.now)) (by_key (T.meaning.answers (T.value pile.now))) vans (length store.old) (length row.old)) row.old }
+    ensures store { StoreAfter (T.meaning.answers (T.value pile.now)) (early_refusal (T.meaning.answers (T.value pile.now)) vans (length store.old) (length row.old)) (labelling (T.meaning.answers (T.value pile.now)) (by_key (T.meaning.answers (T.value pile.now))) (length store.old)) store.old store.new }
 {
     refuse_early(pile, vans, store.len(), row.len())?;
     price_allowed(pile, vans, store, row)

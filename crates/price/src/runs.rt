@@ -30,12 +30,12 @@ pub(crate) fn treat_all<T: Tier>(
     store: &mut [Label<T::State>],
     progress: &mut Progress,
 ) -> Result<(), Crowded>
-    requires few { (meaning.answers (value tier.now)).tiers ≤ most_tiers }
+    requires few { (T.meaning.answers (T.value tier.now)).tiers ≤ most_tiers }
     requires places { 0 < length store.old }
     requires short { length store.old ≤ 2 ^ 18 }
-    requires unused { Unused (meaning.answers (value tier.now)).start progress.old.used store.old }
-    requires begun { Beside (writing (meaning.answers (value tier.now)).start) (meaning.answers (value tier.now)) (length store.old) None (work store.old progress.old) (begin (meaning.answers (value tier.now))) }
-    ensures { Matches (writing (meaning.answers (value tier.now)).start) (meaning.answers (value tier.now)) (length store.old) None (outcome (is_ok result) store.new progress.new) (labelling (meaning.answers (value tier.now)) (by_key (meaning.answers (value tier.now))) (length store.old)) }
+    requires unused { Unused (T.meaning.answers (T.value tier.now)).start progress.old.used store.old }
+    requires begun { Beside (writing (T.meaning.answers (T.value tier.now)).start) (T.meaning.answers (T.value tier.now)) (length store.old) None (work store.old progress.old) (begin (T.meaning.answers (T.value tier.now))) }
+    ensures { Matches (writing (T.meaning.answers (T.value tier.now)).start) (T.meaning.answers (T.value tier.now)) (length store.old) None (outcome (is_ok result) store.new progress.new) (labelling (T.meaning.answers (T.value tier.now)) (by_key (T.meaning.answers (T.value tier.now))) (length store.old)) }
 {
     while let Some(place) = choose(tier, store, progress.used) {
         treat(tier, store, progress, place)?;

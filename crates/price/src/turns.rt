@@ -35,8 +35,8 @@ fn try_finish<T: Tier>(
     place: usize,
     best: Option<(i64, usize)>,
 ) -> Option<(i64, usize)>
-    requires { Sound (meaning.answers (value tier.now)) label.now }
-    ensures { result ≡ try_finish_at (writing (meaning.answers (value tier.now)).start) (meaning.answers (value tier.now)) place (view label.now) best }
+    requires { Sound (T.meaning.answers (T.value tier.now)) label.now }
+    ensures { result ≡ try_finish_at (writing (T.meaning.answers (T.value tier.now)).start) (T.meaning.answers (T.value tier.now)) place (view label.now) best }
 {
     if label.stop == 0 {
         return best;
@@ -56,12 +56,12 @@ fn go_on<T: Tier>(
     place: usize,
     stop: usize,
 ) -> Result<(), Crowded>
-    requires sound { Sound (meaning.answers (value tier.now)) label.now }
-    requires unused { Unused (meaning.answers (value tier.now)).start progress.old.used store.old }
+    requires sound { Sound (T.meaning.answers (T.value tier.now)) label.now }
+    requires unused { Unused (T.meaning.answers (T.value tier.now)).start progress.old.used store.old }
     requires short { length store.old ≤ 2 ^ 18 }
     requires few { Few (2 ^ 40) progress.old }
-    ensures step { outcome (is_ok result) store.new progress.new ≡ go_on_at (writing (meaning.answers (value tier.now)).start) (meaning.answers (value tier.now)) place (view label.now) stop (work store.old progress.old) }
-    ensures goes { Goes_on (meaning.answers (value tier.now)).start (is_ok result) progress.old store.new progress.new }
+    ensures step { outcome (is_ok result) store.new progress.new ≡ go_on_at (writing (T.meaning.answers (T.value tier.now)).start) (T.meaning.answers (T.value tier.now)) place (view label.now) stop (work store.old progress.old) }
+    ensures goes { Goes_on (T.meaning.answers (T.value tier.now)).start (is_ok result) progress.old store.new progress.new }
 {
     match tier.reach(label.state, label.stop, stop) {
         None => Ok(()),
@@ -90,12 +90,12 @@ fn go_on_to_all<T: Tier>(
     label: &Label<T::State>,
     place: usize,
 ) -> Result<(), Crowded>
-    requires sound { Sound (meaning.answers (value tier.now)) label.now }
-    requires unused { Unused (meaning.answers (value tier.now)).start progress.old.used store.old }
+    requires sound { Sound (T.meaning.answers (T.value tier.now)) label.now }
+    requires unused { Unused (T.meaning.answers (T.value tier.now)).start progress.old.used store.old }
     requires short { length store.old ≤ 2 ^ 18 }
     requires few { Few (2 ^ 32) progress.old }
-    ensures step { outcome (is_ok result) store.new progress.new ≡ go_on_to_at (writing (meaning.answers (value tier.now)).start) (meaning.answers (value tier.now)) place (view label.now) (range_with_len 1 (meaning.answers (value tier.now)).stops) (work store.old progress.old) }
-    ensures unused { StillUnused (meaning.answers (value tier.now)).start (is_ok result) store.new progress.new }
+    ensures step { outcome (is_ok result) store.new progress.new ≡ go_on_to_at (writing (T.meaning.answers (T.value tier.now)).start) (T.meaning.answers (T.value tier.now)) place (view label.now) (range_with_len 1 (T.meaning.answers (T.value tier.now)).stops) (work store.old progress.old) }
+    ensures unused { StillUnused (T.meaning.answers (T.value tier.now)).start (is_ok result) store.new progress.new }
 {
     let stops = tier.stops();
     for stop in 1..=stops {
@@ -112,12 +112,12 @@ pub(crate) fn treat<T: Tier>(
     place: usize,
 ) -> Result<(), Crowded>
     requires within { place < progress.old.used }
-    requires sound { Sound (meaning.answers (value tier.now)) (slice_index_or store.old place (blank (meaning.answers (value tier.now)).start)) }
-    requires unused { Unused (meaning.answers (value tier.now)).start progress.old.used store.old }
+    requires sound { Sound (T.meaning.answers (T.value tier.now)) (slice_index_or store.old place (blank (T.meaning.answers (T.value tier.now)).start)) }
+    requires unused { Unused (T.meaning.answers (T.value tier.now)).start progress.old.used store.old }
     requires short { length store.old ≤ 2 ^ 18 }
     requires few { Few (2 ^ 32) progress.old }
-    ensures step { outcome (is_ok result) store.new progress.new ≡ treat_at (writing (meaning.answers (value tier.now)).start) (meaning.answers (value tier.now)) place (work store.old progress.old) }
-    ensures unused { StillUnused (meaning.answers (value tier.now)).start (is_ok result) store.new progress.new }
+    ensures step { outcome (is_ok result) store.new progress.new ≡ treat_at (writing (T.meaning.answers (T.value tier.now)).start) (T.meaning.answers (T.value tier.now)) place (work store.old progress.old) }
+    ensures unused { StillUnused (T.meaning.answers (T.value tier.now)).start (is_ok result) store.new progress.new }
 {
     let mut label = store[place];
     label.status = Status::Treated;

@@ -15,7 +15,7 @@ use Rattle.ng.specs.Ng.{ng, first_near, wider_at}
 use Rattle.ng.specs.declared.NgState.{NgState}
 use Rattle.cuts.specs.Layer.{cuts}
 use Rattle.cuts.specs.Tables.{new_cut}
-use Rattle.cuts.specs.declared.layer.CutsState.{CutsState}
+use Rattle.cuts.specs.declared.cuts_layer.CutsState.{CutsState}
 use Rattle.labelling.specs.Labelling.{by_key}
 use Rattle.calls.specs.Calls.{Answer, priced}
 

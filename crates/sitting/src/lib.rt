@@ -34,7 +34,7 @@ impl<T: Tier> Sitting<T> {
 
     /// A set goes to the pile.
     pub fn set(&mut self, tier: usize, index: usize, amount: i64) -> Result<(), Refusal>
-        ensures did { Did (meaning.sets (value self.old.pile) tier index amount) (value self.old.pile) result (value self.new.pile) }
+        ensures did { Did (T.meaning.sets (T.value self.old.pile) tier index amount) (T.value self.old.pile) result (T.value self.new.pile) }
         ensures vans { self.new.vans ≡ self.old.vans }
     {
         self.pile.set(tier, index, amount)
@@ -48,7 +48,7 @@ impl<T: Tier> Sitting<T> {
         members: StopSet,
         amount: i64,
     ) -> Result<(), Refusal>
-        ensures did { Did (meaning.tightens (value self.old.pile) tier index members.word amount) (value self.old.pile) result (value self.new.pile) }
+        ensures did { Did (T.meaning.tightens (T.value self.old.pile) tier index members.word amount) (T.value self.old.pile) result (T.value self.new.pile) }
         ensures vans { self.new.vans ≡ self.old.vans }
     {
         self.pile.tighten(tier, index, members, amount)
@@ -62,10 +62,10 @@ impl<T: Tier> Sitting<T> {
         store: &mut [Label<T::State>],
         row: &mut [usize],
     ) -> Result<Priced, PriceRefusal>
-        ensures answer { answered result row.new ≡ priced (meaning.answers (value self.now.pile)) (by_key (meaning.answers (value self.now.pile))) self.now.vans (length store.old) (length row.old) }
-        ensures stops { stops_told result ≡ stops_in (priced (meaning.answers (value self.now.pile)) (by_key (meaning.answers (value self.now.pile))) self.now.vans (length store.old) (length row.old)) }
-        ensures row { row.new ≡ row_after (priced (meaning.answers (value self.now.pile)) (by_key (meaning.answers (value self.now.pile))) self.now.vans (length store.old) (length row.old)) row.old }
-        ensures store { StoreAfter (meaning.answers (value self.now.pile)) (early_refusal (meaning.answers (value self.now.pile)) self.now.vans (length store.old) (length row.old)) (labelling (meaning.answers (value self.now.pile)) (by_key (meaning.answers (value self.now.pile))) (length store.old)) store.old store.new }
+        ensures answer { answered result row.new ≡ priced (T.meaning.answers (T.value self.now.pile)) (by_key (T.meaning.answers (T.value self.now.pile))) self.now.vans (length store.old) (length row.old) }
+        ensures stops { stops_told result ≡ stops_in (priced (T.meaning.answers (T.value self.now.pile)) (by_key (T.meaning.answers (T.value self.now.pile))) self.now.vans (length store.old) (length row.old)) }
+        ensures row { row.new ≡ row_after (priced (T.meaning.answers (T.value self.now.pile)) (by_key (T.meaning.answers (T.value self.now.pile))) self.now.vans (length store.old) (length row.old)) row.old }
+        ensures store { StoreAfter (T.meaning.answers (T.value self.now.pile)) (early_refusal (T.meaning.answers (T.value self.now.pile)) self.now.vans (length store.old) (length row.old)) (labelling (T.meaning.answers (T.value self.now.pile)) (by_key (T.meaning.answers (T.value self.now.pile))) (length store.old)) store.old store.new }
     {
         price(&self.pile, self.vans, store, row)
     }

@@ -65,7 +65,7 @@ impl<T: Tier> Sitting<T> {
     // A price with a store and a row of its own, made only if it is not refused before; a row longer
     // than a price needs answers alike.
     fn price_alone(&self, heap: Global, places: usize, row: usize) -> Result<Answer, AllocError>
-        ensures { IfOk result (λ a. meant a ≡ priced (meaning.answers (value self.now.pile)) (by_key (meaning.answers (value self.now.pile))) self.now.vans places row) }
+        ensures { IfOk result (λ a. meant a ≡ priced (T.meaning.answers (T.value self.now.pile)) (by_key (T.meaning.answers (T.value self.now.pile))) self.now.vans places row) }
     {
         if let Err(refusal) = refuse_early(&self.pile, self.vans, places, row) {
             return Ok(refused_by(refusal));
@@ -78,8 +78,8 @@ impl<T: Tier> Sitting<T> {
 
     // One call, and its answer.
     fn make(&mut self, heap: Global, call: Call) -> Result<Answer, AllocError>
-        ensures answer { IfOk result (λ a. meant a ≡ (step meaning self.old.vans (value self.old.pile) (called call)).0) }
-        ensures after { value self.new.pile ≡ (step meaning self.old.vans (value self.old.pile) (called call)).1 }
+        ensures answer { IfOk result (λ a. meant a ≡ (step meaning self.old.vans (T.value self.old.pile) (called call)).0) }
+        ensures after { value self.new.pile ≡ (step meaning self.old.vans (T.value self.old.pile) (called call)).1 }
         ensures vans { self.new.vans ≡ self.old.vans }
     {
         match call {
@@ -100,9 +100,9 @@ impl<T: Tier> Sitting<T> {
 
     // The calls one after the other.
     fn make_all(&mut self, heap: Global, calls: &[Call]) -> Result<Vec<Answer>, AllocError>
-        ensures carried { IfOk result (λ out. Carried meaning self.old.vans (value self.old.pile) (map called calls.now) (map meant out.items) (value self.new.pile)) }
-        ensures cut_short { OnErr result (CutShort meaning self.old.vans (value self.old.pile) (map called calls.now) (value self.new.pile)) }
-        ensures promise { Promise meaning self.old.vans (value self.old.pile) (run meaning self.old.vans (value self.old.pile) (map called calls.now)) }
+        ensures carried { IfOk result (λ out. Carried meaning self.old.vans (T.value self.old.pile) (map called calls.now) (map meant out.items) (T.value self.new.pile)) }
+        ensures cut_short { OnErr result (CutShort meaning self.old.vans (T.value self.old.pile) (map called calls.now) (T.value self.new.pile)) }
+        ensures promise { Promise meaning self.old.vans (T.value self.old.pile) (run meaning self.old.vans (T.value self.old.pile) (map called calls.now)) }
         ensures vans { self.new.vans ≡ self.old.vans }
     {
         let mut answers = Vec::new(heap);
@@ -117,9 +117,9 @@ impl<T: Tier> Sitting<T> {
     /// answers each of them. For want of memory it stops short, with the sitting where the calls
     /// already made left it.
     pub fn carry_out(&mut self, heap: Global, calls: &[Call]) -> Result<Vec<Answer>, AllocError>
-        ensures carried { IfOk result (λ out. Carried meaning self.old.vans (value self.old.pile) (map called calls.now) (map meant out.items) (value self.new.pile)) }
-        ensures cut_short { OnErr result (CutShort meaning self.old.vans (value self.old.pile) (map called calls.now) (value self.new.pile)) }
-        ensures promise { Promise meaning self.old.vans (value self.old.pile) (run meaning self.old.vans (value self.old.pile) (map called calls.now)) }
+        ensures carried { IfOk result (λ out. Carried meaning self.old.vans (T.value self.old.pile) (map called calls.now) (map meant out.items) (T.value self.new.pile)) }
+        ensures cut_short { OnErr result (CutShort meaning self.old.vans (T.value self.old.pile) (map called calls.now) (T.value self.new.pile)) }
+        ensures promise { Promise meaning self.old.vans (T.value self.old.pile) (run meaning self.old.vans (T.value self.old.pile) (map called calls.now)) }
         ensures vans { self.new.vans ≡ self.old.vans }
     {
         self.make_all(heap, calls)

@@ -49,7 +49,15 @@ invariant_of-self c =
     let inside : t.count < length t.cuts = omega arith in
     let wide : members < 2 ^ 64 = omega arith in
     let three = three_counted c.args.stops members wide (sym c.if-not-are_three.ensures) in
-    (omega arith, (three_add t.count t.cuts (new_cut members amount) inside three t.three, cut_put t t.count (new_cut members amount) good))
+    let k = cut_put t t.count (new_cut members amount) good in
+    record {
+      few = omega arith;
+      three = three_add t.count t.cuts (new_cut members amount) inside three t.three;
+      full = k.0;
+      sparse = k.1.0;
+      cheap = k.1.1.0;
+      kept = k.1.1.1.0;
+    }
 
 pub returns : goal.returns
 returns c =

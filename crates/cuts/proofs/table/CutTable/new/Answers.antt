@@ -11,4 +11,12 @@ pub invariant_of-result : goal.invariant_of-result
 invariant_of-result c =
     let e = sym c.blanks.ensures in
     let good = each_copy GoodCut blank_cut 32 blank_cut good_blank good_blank in
-    (omega arith, (three_none c.blanks.result, kept_parts c.blanks.result (subst (λ (xs : List Cut). length xs ≡ 32) e refl) (subst (λ (xs : List Cut). (k : ℕ) → GoodCut (cut_at xs k)) e good)))
+    let k = kept_parts c.blanks.result (subst (λ (xs : List Cut). length xs ≡ 32) e refl) (subst (λ (xs : List Cut). (k : ℕ) → GoodCut (cut_at xs k)) e good) in
+    record {
+      few = omega arith;
+      three = three_none c.blanks.result;
+      full = k.0;
+      sparse = k.1.0;
+      cheap = k.1.1.0;
+      kept = k.1.1.1.0;
+    }

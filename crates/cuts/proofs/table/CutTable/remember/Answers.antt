@@ -16,7 +16,15 @@ invariant_of-self c =
     let i = c.args.index in
     let grown = good_remember (cut_at t.cuts i) c.args.members.word (table_cut t i) in
     let good = subst (λ (x : Cut). GoodCut x) (sym c.remembering.ensures) grown in
-    (t.few, (three_put t.count t.cuts i c.remembering.result (ap (λ (x : Cut). x.stops.word) c.remembering.ensures) t.three, cut_put t i c.remembering.result good))
+    let k = cut_put t i c.remembering.result good in
+    record {
+      few = t.few;
+      three = three_put t.count t.cuts i c.remembering.result (ap (λ (x : Cut). x.stops.word) c.remembering.ensures) t.three;
+      full = k.0;
+      sparse = k.1.0;
+      cheap = k.1.1.0;
+      kept = k.1.1.1.0;
+    }
 
 pub returns : goal.returns
 returns c =

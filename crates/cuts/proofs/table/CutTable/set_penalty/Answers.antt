@@ -31,7 +31,15 @@ invariant_of-self c =
     let t = c.args.self.now in
     let amount = to_z w64 (of_z w64 c.args.amount) in
     let i = c.args.index in
-    (t.few, (three_put t.count t.cuts i (reprice (cut_at t.cuts i) amount) refl t.three, cut_put t i (reprice (cut_at t.cuts i) amount) (good_reprice (cut_at t.cuts i) amount (table_cut t i) (sym c.if-not-is_penalty.ensures))))
+    let k = cut_put t i (reprice (cut_at t.cuts i) amount) (good_reprice (cut_at t.cuts i) amount (table_cut t i) (sym c.if-not-is_penalty.ensures)) in
+    record {
+      few = t.few;
+      three = three_put t.count t.cuts i (reprice (cut_at t.cuts i) amount) refl t.three;
+      full = k.0;
+      sparse = k.1.0;
+      cheap = k.1.1.0;
+      kept = k.1.1.1.0;
+    }
 
 pub returns : goal.returns
 returns c =

@@ -3,4 +3,7 @@ use Rattle.stops.proofs.Lists.{each_copy}
 use Rattle.duals.proofs.table.Duals.new.Goals as goal
 
 pub invariant_of-result : goal.invariant_of-result
-invariant_of-result c = (search rules, (each_copy (λ z. nat_abs z ≤ 2 ^ 30) (pos 0) 61 (pos 0) (omega arith) (omega arith), tt))
+invariant_of-result c = record {
+  few = search rules;
+  ranged = each_copy (λ z. nat_abs z ≤ 2 ^ 30) (pos 0) 61 (pos 0) (omega arith) (omega arith);
+}

@@ -4,9 +4,9 @@ use Rattle.tier.specs.Layers.{higher}
 use Rattle.cuts.specs.Contents.{cuts_of}
 use Rattle.cuts.specs.Cuts.{penalties_of}
 use Rattle.cuts.proofs.Credits.{credit_below, table_small, not_shut}
-use Rattle.cuts.proofs.layer.CutsTier.credit.Given as given
-use Rattle.cuts.proofs.layer.CutsTier.credit.Goals as goal
-use Rattle.cuts.proofs.layer.CutsTier.credit.Goals.{After-penalties}
+use Rattle.cuts.proofs.cuts_layer.CutsTier.credit.Given as given
+use Rattle.cuts.proofs.cuts_layer.CutsTier.credit.Goals as goal
+use Rattle.cuts.proofs.cuts_layer.CutsTier.credit.Goals.{After-penalties}
 
 -- at most four tiers stand, so the credit below and the penalties are small
 record Small (g : given.Over) (c : After-penalties g) : Type 0 where

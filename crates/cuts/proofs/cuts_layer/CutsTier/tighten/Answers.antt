@@ -8,7 +8,7 @@ use Rattle.layer.specs.Layers.{layer_at}
 use Rattle.cuts.specs.Contents.{cuts_of}
 use Rattle.cuts.specs.Tables.{tighten_cut}
 use Rattle.cuts.proofs.Gives.{did_own}
-use Rattle.cuts.proofs.layer.CutsTier.tighten.Goals as goal
+use Rattle.cuts.proofs.cuts_layer.CutsTier.tighten.Goals as goal
 
 pub returns-then-tier-tiers : goal.returns-then-tier-tiers
 returns-then-tier-tiers g c =
