@@ -15,7 +15,7 @@ use Rattle.bounds.specs.declared.fault.BookFault.{BookFault}
 use Rattle.bounds.specs.declared.fault.BookFault.TheVariants.{Form, Range, Order}
 use Rattle.bounds.specs.Bounds.{number_within, misplaced_of, line_opening, line_closing}
 use Rattle.calls.specs.Calls.{Call, set, tighten, price}
-use Rattle.sitting.specs.declared.calls.Call.{Call as CodeCall}
+use Rattle.sitting.specs.declared.told.Call.{Call as CodeCall}
 use Rattle.sitting.specs.Answers.{called}
 use Rattle.lines.specs.declared.pile.Bottom.{Bottom}
 use Rattle.lines.specs.declared.pile.Bottom.TheVariants.{OfRounds, OfTowns}

@@ -4,10 +4,10 @@ use Rattle.tier.specs.Refusals.{number}
 use Rattle.tier.specs.declared.refusal.Refusal.{Refusal}
 use Rattle.price.specs.Prices.{counts}
 use Rattle.calls.specs.Calls.{Call, set, tighten, price, Answer, call_taken, call_refused, lowest, no_route}
-use Rattle.sitting.specs.declared.calls.Call.{Call as CodeCall}
-use Rattle.sitting.specs.declared.calls.Call.TheVariants.{Set, Tighten, Price}
-use Rattle.sitting.specs.declared.calls.Answer.{Answer as CodeAnswer}
-use Rattle.sitting.specs.declared.calls.Answer.TheVariants.{Taken, Refused, Lowest, NoRoute}
+use Rattle.sitting.specs.declared.told.Call.{Call as CodeCall}
+use Rattle.sitting.specs.declared.told.Call.TheVariants.{Set, Tighten, Price}
+use Rattle.sitting.specs.declared.told.Answer.{Answer as CodeAnswer}
+use Rattle.sitting.specs.declared.told.Answer.TheVariants.{Taken, Refused, Lowest, NoRoute}
 
 abbrev pub called : CodeCall → Call
 called (Set tier index amount) = set tier index amount

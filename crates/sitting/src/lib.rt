@@ -1,7 +1,7 @@
 //! A sitting: a pile with a number of vans, reached by set, tighten and price alone.
 #![tactic(auto)]
 
-mod calls;
+mod told;
 mod runs;
 
 ghost use Rattle.std.specs.Prelude.{◌≡◌, length};
@@ -10,7 +10,7 @@ ghost use Rattle.labelling.specs.Labelling.{by_key, labelling};
 ghost use Rattle.calls.specs.Calls.{early_refusal, priced};
 ghost use Rattle.price.specs.Prices.{answered, stops_told, stops_in, row_after, StoreAfter};
 
-pub use calls::{Answer, Call};
+pub use told::{Answer, Call};
 use price::{Label, PriceRefusal, Priced, price};
 use stops::StopSet;
 use tier::{Refusal, Tier};

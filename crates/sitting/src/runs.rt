@@ -7,7 +7,7 @@ ghost use Rattle.price.specs.Prices.{number, answered};
 ghost use Rattle.sitting.specs.Answers.{called, meant, judged as «judged_of»};
 
 use crate::Sitting;
-use crate::calls::{Answer, Call};
+use crate::told::{Answer, Call};
 use price::{Label, PriceRefusal, Priced, ROW_LENGTH, refuse_early};
 use std::alloc::{AllocError, Global};
 use tier::{Refusal, Tier};
@@ -78,8 +78,8 @@ impl<T: Tier> Sitting<T> {
 
     // One call, and its answer.
     fn make(&mut self, heap: Global, call: Call) -> Result<Answer, AllocError>
-        ensures answer { IfOk result (λ a. meant a ≡ (step meaning self.old.vans (T.value self.old.pile) (called call)).0) }
-        ensures after { value self.new.pile ≡ (step meaning self.old.vans (T.value self.old.pile) (called call)).1 }
+        ensures answer { IfOk result (λ a. meant a ≡ (step T.meaning self.old.vans (T.value self.old.pile) (called call)).0) }
+        ensures after { T.value self.new.pile ≡ (step T.meaning self.old.vans (T.value self.old.pile) (called call)).1 }
         ensures vans { self.new.vans ≡ self.old.vans }
     {
         match call {
@@ -100,9 +100,9 @@ impl<T: Tier> Sitting<T> {
 
     // The calls one after the other.
     fn make_all(&mut self, heap: Global, calls: &[Call]) -> Result<Vec<Answer>, AllocError>
-        ensures carried { IfOk result (λ out. Carried meaning self.old.vans (T.value self.old.pile) (map called calls.now) (map meant out.items) (T.value self.new.pile)) }
-        ensures cut_short { OnErr result (CutShort meaning self.old.vans (T.value self.old.pile) (map called calls.now) (T.value self.new.pile)) }
-        ensures promise { Promise meaning self.old.vans (T.value self.old.pile) (run meaning self.old.vans (T.value self.old.pile) (map called calls.now)) }
+        ensures carried { IfOk result (λ out. Carried T.meaning self.old.vans (T.value self.old.pile) (map called calls.now) (map meant out.items) (T.value self.new.pile)) }
+        ensures cut_short { OnErr result (CutShort T.meaning self.old.vans (T.value self.old.pile) (map called calls.now) (T.value self.new.pile)) }
+        ensures promise { Promise T.meaning self.old.vans (T.value self.old.pile) (run T.meaning self.old.vans (T.value self.old.pile) (map called calls.now)) }
         ensures vans { self.new.vans ≡ self.old.vans }
     {
         let mut answers = Vec::new(heap);
@@ -117,9 +117,9 @@ impl<T: Tier> Sitting<T> {
     /// answers each of them. For want of memory it stops short, with the sitting where the calls
     /// already made left it.
     pub fn carry_out(&mut self, heap: Global, calls: &[Call]) -> Result<Vec<Answer>, AllocError>
-        ensures carried { IfOk result (λ out. Carried meaning self.old.vans (T.value self.old.pile) (map called calls.now) (map meant out.items) (T.value self.new.pile)) }
-        ensures cut_short { OnErr result (CutShort meaning self.old.vans (T.value self.old.pile) (map called calls.now) (T.value self.new.pile)) }
-        ensures promise { Promise meaning self.old.vans (T.value self.old.pile) (run meaning self.old.vans (T.value self.old.pile) (map called calls.now)) }
+        ensures carried { IfOk result (λ out. Carried T.meaning self.old.vans (T.value self.old.pile) (map called calls.now) (map meant out.items) (T.value self.new.pile)) }
+        ensures cut_short { OnErr result (CutShort T.meaning self.old.vans (T.value self.old.pile) (map called calls.now) (T.value self.new.pile)) }
+        ensures promise { Promise T.meaning self.old.vans (T.value self.old.pile) (run T.meaning self.old.vans (T.value self.old.pile) (map called calls.now)) }
         ensures vans { self.new.vans ≡ self.old.vans }
     {
         self.make_all(heap, calls)
