@@ -1,10 +1,10 @@
 -- What a book keeps of its numbers, as facts, and that each call keeps it. Assumes nothing.
-use Rattle.std.proofs.Common.{◌≡◌, ℕ, ◌+◌, ◌*◌, ◌^◌, ◌<◌, ◌≤◌, Bool, true, false, cond, not, ◌&&◌, eqb, ltb, leb, ◌⊎◌, List, get_or, set, replicate, sym, refl, ap, ◌∙◌, subst, inl, inr, ⊎_elim, arith, get_or-set_other}
+use Rattle.std.proofs.Common.{◌≡◌, ℕ, ◌<◌, ◌≤◌, Bool, true, false, cond, ◌&&◌, eqb, leb, ◌⊎◌, List, get_or, set, replicate, sym, refl, subst, ⊎_elim, arith, get_or-set_other}
 use Rattle.std.proofs.lemmas.Bool.{cases_eq, cases_lt, leb-true, le-leb, eqb-true, ne_eqb, true≢false, and_parts}
 use Rattle.std.proofs.lemmas.Bool.Decides.{nat_tests}
 use Rattle.stops.specs.Stops.{Stop, most_stops, most_places}
-use Rattle.stops.proofs.Lists.{each_set, each_copy, get_d_set_at}
-use Rattle.book.specs.Limits.{most_load, most_made, last_minute, most_minutes, most_cost}
+use Rattle.stops.proofs.Lists.{each_copy, get_d_set_at}
+use Rattle.book.specs.Limits.{most_made, last_minute, most_minutes, most_cost}
 use Rattle.book.specs.Ranges.{between, fleet_fits, fleet_ok, visit_fits, visit_ok, leg_fits, leg_ok, blank_visit, blank_leg, apart, leg_index, VisitsOk, LegsOk}
 use Rattle.book.specs.Books.{Contents, can_put_visit, can_put_leg}
 use Rattle.book.specs.declared.parts.Fleet.{Fleet}

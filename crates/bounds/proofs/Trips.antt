@@ -1,8 +1,8 @@
 -- What the openings and closings of lines, and numbers in their bounds, read and how they are written.
-use Rattle.std.proofs.Common.{◌≡◌, ℕ, ◌+◌, ◌^◌, ◌<◌, ◌≤◌, Bool, true, false, cond, ◌&&◌, eqb, leb, List, [], ◌∷◌, ◌++◌, length, drop, Ok, Err, codes, decimal, Result, sym, refl, ap, ◌∙◌, subst, append-nil, add-zero, arith}
+use Rattle.std.proofs.Common.{◌≡◌, ℕ, ◌^◌, ◌<◌, ◌≤◌, cond, ◌&&◌, eqb, leb, List, [], ◌∷◌, ◌++◌, Ok, Err, codes, decimal, sym, refl, ap, ◌∙◌, append-nil, add-zero}
 use Rattle.std.proofs.lemmas.Bool.{cond_both, and_parts, and_from, leb-true, le-leb, eqb-true, eq-eqb}
 use Rattle.text.specs.Tokens.{with_place}
-use Rattle.text.specs.Readers.{Reader, and_then}
+use Rattle.text.specs.Readers.{and_then}
 use Rattle.text.proofs.Trips.{NoLetter, NoDigit, Any, scan_number, Spent, SoundAt, Sounds, Takes, sounds_then, sounds_weaker, takes_then}
 use Rattle.words.specs.declared.vocabulary.Keyword.{Keyword}
 use Rattle.words.specs.Vocabulary.{spelt, same_word}
@@ -10,7 +10,6 @@ use Rattle.words.proofs.Inverse.{same_spelling, same_as_itself}
 use Rattle.form.specs.declared.due.Mark.TheVariants.{Open, Close, Blank, Feed}
 use Rattle.form.specs.Forms.{same, mark_due, word_due, name_due, number_due}
 use Rattle.form.proofs.Trips.{mark_sounds, word_sounds, name_sounds, number_sounds, mark_takes, word_takes, name_taken}
-use Rattle.bounds.specs.declared.fault.BookFault.{BookFault}
 use Rattle.bounds.specs.declared.fault.BookFault.TheVariants.{Form, Range, Order}
 use Rattle.bounds.specs.Bounds.{ranged, ordered, number_within, number_in_order, misplaced_of, line_named, line_name, line_opening, numbered_opening, nested_opening, item_opening, line_closing}
 use Rattle.bounds.specs.Bytes.{line_start, numbered_start, item_start, line_end}

@@ -1,5 +1,5 @@
 -- Ranges and order: numbers, and how lines and their items open and close.
-use Rattle.std.specs.Prelude.{ℕ, Bool, true, false, cond, ◌&&◌, Ok, Err, Result, ◌==◌, nat_le}
+use Rattle.std.specs.Prelude.{ℕ, cond, ◌&&◌, Ok, Err, Result, ◌==◌, nat_le}
 use Rattle.text.specs.Tokens.{with_place}
 use Rattle.text.specs.Readers.{Reader, then, and_then}
 use Rattle.words.specs.declared.vocabulary.Keyword.{Keyword}

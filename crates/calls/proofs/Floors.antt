@@ -1,5 +1,5 @@
 -- A price that is answered is right, and its floor is under every plan. Assumes nothing.
-use Rattle.std.proofs.Common.{◌≡◌, ℕ, zero, suc, ◌+◌, ◌*◌, ◌<◌, ◌≤◌, Bool, true, false, cond, ◌||◌, eqb, ltb, List, [], ◌∷◌, length, ℤ, pos, negsuc, ◌+ℤ◌, ◌*ℤ◌, neg_ℤ, ◌≤ℤ◌, Some, None, Option, sym, refl, ap, ◌∙◌, subst, mul-le-mul_right, arith}
+use Rattle.std.proofs.Common.{◌≡◌, ℕ, suc, ◌*◌, ◌<◌, ◌≤◌, Bool, ◌||◌, eqb, ltb, List, [], ◌∷◌, length, ℤ, pos, negsuc, ◌+ℤ◌, ◌*ℤ◌, neg_ℤ, ◌≤ℤ◌, Some, None, Option, refl, mul-le-mul_right, arith}
 use Rattle.std.specs.Int.{int_min}
 use Rattle.std.specs.List.{AllByRecursion as All}
 use Rattle.std.proofs.lemmas.Int.{ints}
@@ -14,7 +14,7 @@ use Rattle.labelling.specs.Labelling.{Finished, Table, labelling, route_to}
 use Rattle.labelling.specs.Lowest.{Found}
 use Rattle.labelling.proofs.Lowest.{finds_lowest}
 use Rattle.calls.specs.Calls.{most_vans, most_labels, early_refusal, floor, found, labelled, unless_refused, priced}
-use Rattle.calls.specs.Promises.{NoneAdmitted, RightLowest, RightNoRoute, Right}
+use Rattle.calls.specs.Promises.{NoneAdmitted, Right}
 
 -- how far below 0
 depth : ℤ → ℕ

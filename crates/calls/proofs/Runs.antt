@@ -1,5 +1,5 @@
 -- Over a run: what calls keep, and what they may only tighten. Assumes nothing.
-use Rattle.std.proofs.Common.{◌≡◌, ℕ, ◌+◌, Bool, true, false, List, [], ◌∷◌, ◌++◌, length, ℤ, ◌≤ℤ◌, Option, sym, refl, ap, ◌∙◌, subst, arith}
+use Rattle.std.proofs.Common.{◌≡◌, ℕ, false, List, [], ◌∷◌, ◌++◌, length, ℤ, Option, sym, refl, ap, ◌∙◌, subst, arith}
 use Rattle.std.specs.List.{AllByRecursion as All}
 use Rattle.std.proofs.lemmas.List.{length-append}
 use Rattle.std.proofs.lemmas.Int.{ints}
@@ -7,10 +7,10 @@ use Rattle.std.proofs.lemmas.Bool.{true≢false}
 use Rattle.tier.specs.Answers.{Answers}
 use Rattle.tier.specs.Routes.{Route}
 use Rattle.tier.specs.Meaning.{Meaning, Outcome, taken, refused, Comes, here, by_set, by_tighten}
-use Rattle.tier.specs.Laws.{Laws, Lawful, Kept, NoCheaper}
+use Rattle.tier.specs.Laws.{Lawful, Kept, NoCheaper}
 use Rattle.labelling.specs.Labelling.{by_key}
 use Rattle.calls.specs.Calls.{Call, set, tighten, price, Answer, call_taken, call_refused, lowest, no_route, told, left_by, Entry, left, step, run}
-use Rattle.calls.specs.Promises.{RightLowest, RightNoRoute, Right, is_taken_set, NotAbove, Promise}
+use Rattle.calls.specs.Promises.{Right, is_taken_set, NotAbove, Promise}
 use Rattle.calls.proofs.Floors.{priced_right}
 
 -- TWO PRICES

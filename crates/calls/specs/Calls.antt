@@ -1,6 +1,6 @@
 -- The calls on a sitting, what each of them answers, and what each leaves. A sitting is the value of a pile, with a
 -- number of vans.
-use Rattle.std.specs.Prelude.{ℕ, ◌^◌, Bool, true, false, cond, ◌||◌, List, [], ◌∷◌, ℤ, pos, ◌+ℤ◌, ◌*ℤ◌, Some, None, Option, ◌==◌, nat_lt}
+use Rattle.std.specs.Prelude.{ℕ, ◌^◌, Bool, cond, ◌||◌, List, [], ◌∷◌, ℤ, pos, ◌+ℤ◌, ◌*ℤ◌, Some, None, Option, ◌==◌, nat_lt}
 use Rattle.std.specs.Int.{int_min}
 use Rattle.tier.specs.Answers.{Answers}
 use Rattle.tier.specs.Meaning.{Meaning, Outcome, taken, refused}

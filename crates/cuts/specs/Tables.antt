@@ -1,5 +1,5 @@
 -- What a table of cuts keeps, and what set and tighten make of it.
-use Rattle.std.specs.Prelude.{◌≡◌, ℕ, ◌<◌, ◌≤◌, Bool, true, cond, ◌&&◌, List, [], ◌∷◌, ◌++◌, length, set, ℤ, pos, ◌==◌, int_le, nat_le, nat_lt, slice_set, unsigned_abs}
+use Rattle.std.specs.Prelude.{◌≡◌, ℕ, ◌<◌, ◌≤◌, Bool, true, cond, ◌&&◌, List, [], ◌∷◌, ◌++◌, length, ℤ, pos, ◌==◌, int_le, nat_le, nat_lt, slice_set, unsigned_abs}
 use Rattle.stops.specs.Stops.{most_member, member, joined, within, all_stops, count_to}
 use Rattle.tier.specs.Meaning.{Outcome, taken, refused}
 use Rattle.tier.specs.Refusals.{number}

@@ -1,5 +1,5 @@
 -- A deck and its book, both ways.
-use Rattle.std.proofs.Common.{◌≡◌, ℕ, zero, suc, ◌+◌, ◌*◌, ◌<◌, ◌≤◌, Bool, true, false, cond, ◌&&◌, eqb, List, [], ◌∷◌, ◌++◌, length, get_or, drop, replicate, Ok, Err, Result, sym, refl, ap, ◌∙◌, subst, append-nil, zero-add, arith}
+use Rattle.std.proofs.Common.{◌≡◌, ℕ, suc, ◌+◌, ◌*◌, ◌≤◌, Bool, true, false, cond, ◌&&◌, eqb, List, [], ◌++◌, length, drop, replicate, Ok, Err, sym, refl, ap, ◌∙◌, subst, append-nil, zero-add, arith}
 use lib.ListN.{length-replicate}
 use Rattle.std.proofs.lemmas.Bool.{and_parts, ne_eqb, eq-eqb, eqb-true, true≢false}
 use Rattle.stops.specs.Stops.{most_stops, most_places}
@@ -9,17 +9,17 @@ use Rattle.form.specs.Forms.{same}
 use Rattle.form.specs.declared.fault.FormFault.TheVariants.{NotDue}
 use Rattle.bounds.specs.declared.fault.BookFault.TheVariants.{Form}
 use Rattle.book.specs.declared.parts.Fleet.{Fleet}
-use Rattle.book.specs.Ranges.{fleet_fits, fleet_blank, fleet_ok, blank_visit, blank_leg, leg_index}
+use Rattle.book.specs.Ranges.{fleet_fits, fleet_blank, blank_visit, blank_leg, leg_index}
 use Rattle.book.specs.Books.{Contents, opened, empty_book}
 use Rattle.book.proofs.Kept.{InRanges}
 use Rattle.deck.specs.declared.first_line.FirstLine.{FirstLine}
 use Rattle.deck.specs.Lines.{first_line, stop_lines, leg_lines, end_line, deck, handed}
-use Rattle.deck.specs.Bytes.{first_line_bytes, stop_bytes, stops_bytes, leg_lines_bytes, end_bytes, lines_bytes, deck_bytes}
+use Rattle.deck.specs.Bytes.{first_line_bytes, stops_bytes, leg_lines_bytes, end_bytes, lines_bytes, deck_bytes}
 use Rattle.deck.specs.Trips.{ReadBack, WrittenBack}
 use Rattle.deck.proofs.LineTrips.{fleet_in_range, first_takes, first_sounds, end_takes, end_sounds}
 use Rattle.deck.proofs.Mixed.{mixed}
-use Rattle.deck.proofs.StopTrips.{VisitsFrom, stops_sounds, Said, stops_takes, none_said, all_said}
-use Rattle.deck.proofs.LegTrips.{LegsFrom, lines_sounds, Driven, lines_takes, none_driven, all_driven, no_legs}
+use Rattle.deck.proofs.StopTrips.{stops_sounds, Said, stops_takes, none_said, all_said}
+use Rattle.deck.proofs.LegTrips.{lines_sounds, Driven, lines_takes, none_driven, all_driven, no_legs}
 
 -- WHAT IS READ IS WHAT WOULD BE WRITTEN
 

@@ -1,5 +1,5 @@
 -- The lines of the legs, one by one.
-use Rattle.std.proofs.Common.{◌≡◌, ℕ, zero, suc, ◌+◌, ◌≤◌, Bool, true, false, cond, ◌&&◌, eqb, leb, List, [], ◌++◌, set, Ok, sym, refl, ap, ◌∙◌, subst, arith}
+use Rattle.std.proofs.Common.{◌≡◌, ℕ, zero, suc, ◌+◌, ◌≤◌, Bool, true, false, cond, ◌&&◌, eqb, leb, set, Ok, refl, ◌∙◌, arith}
 use Rattle.std.proofs.lemmas.Bool.{and_from, le-leb}
 use Rattle.std.proofs.lemmas.Bool.Decides.{nat_tests}
 use Rattle.text.specs.declared.cursor.Cursor.{Cursor}
@@ -15,7 +15,7 @@ use Rattle.book.specs.declared.parts.Leg.{Leg}
 use Rattle.book.specs.Limits.{most_cost, most_minutes}
 use Rattle.book.specs.Ranges.{leg_fits, leg_index}
 use Rattle.book.specs.Books.{Contents, with_leg, can_put_leg}
-use Rattle.deck.specs.Lines.{leg_pair, leg_pairs, leg_line, most_cost_between, least_minutes_between, most_minutes_between}
+use Rattle.deck.specs.Lines.{leg_pair, leg_pairs, leg_line}
 use Rattle.deck.specs.Bytes.{leg_bytes}
 use Rattle.deck.proofs.LineTrips.{LegBetween, leg_sounds}
 

@@ -1,6 +1,6 @@
 -- The lines of the legs, both ways.
-use Rattle.std.proofs.Common.{◌≡◌, ℕ, zero, suc, ◌+◌, ◌-◌, ◌*◌, ◌/◌, ◌%◌, ◌<◌, ◌≤◌, Bool, true, false, cond, not, ◌&&◌, eqb, ltb, leb, List, [], ◌∷◌, ◌++◌, length, get_or, set, replicate, sym, refl, ap, ◌∙◌, subst, append-nil, arith, length-set, get_or-set_other, get_or-set_same}
-use Rattle.std.proofs.lemmas.Bool.{and_parts, and_from, eqb-true, leb-true, le-leb, lt-ltb}
+use Rattle.std.proofs.Common.{◌≡◌, ℕ, zero, suc, ◌+◌, ◌-◌, ◌*◌, ◌/◌, ◌%◌, ◌<◌, ◌≤◌, Bool, true, false, cond, eqb, ltb, List, [], ◌++◌, length, get_or, set, replicate, sym, refl, ap, ◌∙◌, subst, arith, length-set, get_or-set_other, get_or-set_same}
+use Rattle.std.proofs.lemmas.Bool.{and_parts, eqb-true, lt-ltb}
 use Rattle.std.proofs.lemmas.Bool.Decides.{nat_tests}
 use Rattle.stops.specs.Stops.{most_stops, most_places}
 use Rattle.text.proofs.Trips.{NoDigit, Any, Sounds, Takes, sounds_then, sounds_give, sounds_weaker, takes_then, takes_give}
@@ -14,7 +14,7 @@ use Rattle.book.specs.declared.parts.Leg.{Leg}
 use Rattle.book.specs.Limits.{most_cost, most_minutes}
 use Rattle.book.specs.Ranges.{leg_fits, leg_blank, leg_ok, leg_index, blank_leg, apart, LegsOk}
 use Rattle.book.specs.Books.{Contents, no_leg, leg_at, with_leg}
-use Rattle.deck.specs.Lines.{leg_pair, leg_pairs, leg_line, leg_lines, most_cost_between, least_minutes_between, most_minutes_between}
+use Rattle.deck.specs.Lines.{leg_pair, leg_pairs, leg_line, leg_lines}
 use Rattle.deck.specs.Bytes.{leg_bytes, pairs_bytes, leg_line_bytes, leg_lines_bytes}
 use Rattle.deck.proofs.LineTrips.{LegBetween, leg_takes, leg_sounds}
 use Rattle.deck.proofs.Mixed.{mixed, mixed_none, mixed_all, mixed_set, mixed_skip, mixed_skips}

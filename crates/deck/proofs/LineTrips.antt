@@ -1,15 +1,13 @@
 -- The lines of a deck, both ways: what is written is read back, and what is read is what would be written.
-use Rattle.std.proofs.Common.{◌≡◌, ℕ, zero, suc, ◌+◌, ◌^◌, ◌<◌, ◌≤◌, Bool, true, false, cond, ◌&&◌, eqb, leb, List, [], ◌∷◌, ◌++◌, length, drop, codes, decimal, sym, refl, ap, ◌∙◌, subst, append-nil, arith}
+use Rattle.std.proofs.Common.{◌≡◌, ℕ, zero, suc, ◌^◌, ◌<◌, ◌≤◌, Bool, true, false, eqb, List, [], ◌∷◌, ◌++◌, codes, decimal, refl, ap, ◌∙◌, subst, append-nil, arith}
 use Rattle.std.proofs.lemmas.Bool.Decides.{nat_tests}
 use Rattle.stops.specs.Stops.{most_stops}
-use Rattle.text.specs.Readers.{Reader, and_then, give}
 use Rattle.text.proofs.Trips.{NoLetter, NoDigit, Any, Sounds, Takes, sounds_then, sounds_give, takes_then, takes_give}
 use Rattle.words.specs.declared.vocabulary.Keyword.{Keyword}
-use Rattle.words.specs.declared.vocabulary.Keyword.TheVariants.{Deck, Stops, Vans, Capacity, Battery, Most, Stop, Window, Load, Charger, Legs, End}
-use Rattle.form.specs.declared.due.Mark.TheVariants.{Open, Close, Blank, Feed}
+use Rattle.words.specs.declared.vocabulary.Keyword.TheVariants.{Deck, Stops, Vans, Capacity, Battery, Most, Stop, Window, Load, Charger, End}
+use Rattle.form.specs.declared.due.Mark.TheVariants.{Close, Blank}
 use Rattle.form.specs.Forms.{same, mark_due}
 use Rattle.form.proofs.Trips.{mark_sounds, mark_takes}
-use Rattle.bounds.specs.declared.fault.BookFault.{BookFault}
 use Rattle.bounds.specs.declared.fault.BookFault.TheVariants.{Form}
 use Rattle.bounds.specs.Bounds.{number_within, line_opening, numbered_opening, nested_opening, item_opening, line_closing}
 use Rattle.bounds.specs.Bytes.{line_start, numbered_start, item_start, line_end}
@@ -17,8 +15,8 @@ use Rattle.bounds.proofs.Trips.{within_takes, within_sounds, line_takes, line_so
 use Rattle.book.specs.declared.parts.Fleet.{Fleet}
 use Rattle.book.specs.declared.parts.Visit.{Visit}
 use Rattle.book.specs.declared.parts.Leg.{Leg}
-use Rattle.book.specs.Limits.{most_vans, most_capacity, most_load, most_battery, most_made, last_minute, most_minutes, most_cost}
-use Rattle.book.specs.Ranges.{between, fleet_fits, visit_fits, leg_fits}
+use Rattle.book.specs.Limits.{most_vans, most_capacity, most_load, most_battery, most_made, last_minute}
+use Rattle.book.specs.Ranges.{fleet_fits, visit_fits}
 use Rattle.deck.specs.declared.first_line.FirstLine.{FirstLine}
 use Rattle.deck.specs.Lines.{item, first_line, window_item, charger_item, stop_line, most_cost_between, least_minutes_between, most_minutes_between, leg_pair, end_line}
 use Rattle.deck.specs.Bytes.{item_bytes, first_line_bytes, window_bytes, charger_number, stop_bytes, leg_bytes, end_bytes}

@@ -1,12 +1,12 @@
 -- The lines of the stops, both ways.
-use Rattle.std.proofs.Common.{◌≡◌, ℕ, zero, suc, ◌+◌, ◌*◌, ◌<◌, ◌≤◌, Bool, true, false, cond, not, ◌&&◌, eqb, leb, ◌⊎◌, List, [], ◌∷◌, ◌++◌, length, get_or, set, replicate, sym, refl, ap, ◌∙◌, subst, inl, inr, ⊎_elim, append-nil, arith, length-set, get_or-set_other, get_or-set_same}
-use Rattle.std.proofs.lemmas.Bool.{and_parts, and_from, eqb-true, leb-true, le-leb, cases_lt}
+use Rattle.std.proofs.Common.{◌≡◌, ℕ, zero, suc, ◌+◌, ◌*◌, ◌<◌, ◌≤◌, Bool, true, false, cond, not, ◌&&◌, eqb, leb, [], ◌++◌, length, get_or, replicate, sym, refl, ap, ◌∙◌, subst, arith, length-set, get_or-set_other, get_or-set_same}
+use Rattle.std.proofs.lemmas.Bool.{and_parts, and_from, eqb-true, le-leb}
 use Rattle.std.proofs.lemmas.Bool.Decides.{nat_tests}
 use Rattle.stops.specs.Stops.{most_stops, most_places}
 use Rattle.text.proofs.Trips.{Any, Sounds, Takes, sounds_then, sounds_give, sounds_weaker, takes_then, takes_give}
 use Rattle.form.specs.Forms.{same}
 use Rattle.book.specs.declared.parts.Visit.{Visit}
-use Rattle.book.specs.Ranges.{between, visit_fits, visit_blank, visit_ok, blank_visit, blank_leg, VisitsOk}
+use Rattle.book.specs.Ranges.{between, visit_fits, visit_blank, blank_visit, blank_leg, VisitsOk}
 use Rattle.book.specs.Books.{Contents, visit_at, with_visit}
 use Rattle.deck.specs.Lines.{stop_line, stop_lines}
 use Rattle.deck.specs.Bytes.{stop_bytes, stops_bytes}

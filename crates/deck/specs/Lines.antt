@@ -1,11 +1,10 @@
 -- The lines of a deck: one form a line, its items in this order, each number in its range.
-use Rattle.std.specs.Prelude.{ℕ, zero, suc, ◌+◌, Bool, true, false, cond, Ok, Err, Result, ◌==◌}
+use Rattle.std.specs.Prelude.{ℕ, suc, Bool, cond, Ok, Err, Result, ◌==◌}
 use Rattle.stops.specs.Stops.{most_stops}
 use Rattle.text.specs.Readers.{Reader, and_then, give, repeated}
 use Rattle.words.specs.declared.vocabulary.Keyword.{Keyword}
 use Rattle.words.specs.declared.vocabulary.Keyword.TheVariants.{Deck, Stops, Vans, Capacity, Battery, Most, Stop, Window, Load, Charger, Legs, End}
-use Rattle.form.specs.declared.due.Mark.TheVariants.{Open, Close, Blank, Feed}
-use Rattle.form.specs.declared.fault.FormFault.{FormFault}
+use Rattle.form.specs.declared.due.Mark.TheVariants.{Close, Blank}
 use Rattle.form.specs.Forms.{same, mark_due}
 use Rattle.bounds.specs.declared.fault.BookFault.{BookFault}
 use Rattle.bounds.specs.declared.fault.BookFault.TheVariants.{Form}

@@ -1,5 +1,5 @@
 -- A deck and its book, both ways.
-use Rattle.std.specs.Prelude.{◌≡◌, ℕ, ◌≤◌, List, [], ◌++◌, length, drop, Ok, Err, ◌≢◌}
+use Rattle.std.specs.Prelude.{◌≡◌, ℕ, ◌≤◌, List, ◌++◌, length, drop, Ok, Err, ◌≢◌}
 use Rattle.form.specs.declared.fault.FormFault.TheVariants.{NotDue}
 use Rattle.bounds.specs.declared.fault.BookFault.TheVariants.{Form}
 use Rattle.book.specs.Books.{Contents}

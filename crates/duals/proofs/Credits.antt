@@ -1,8 +1,8 @@
 -- The sum of the duals, and its size. Assumes nothing.
-use Rattle.std.proofs.Common.{◌≡◌, ℕ, zero, suc, ◌+◌, ◌-◌, ◌*◌, ◌^◌, ◌<◌, ◌≤◌, List, ℤ, pos, ◌+ℤ◌, nat_abs, sym, refl, ap, ◌∙◌, arith}
+use Rattle.std.proofs.Common.{◌≡◌, ℕ, zero, suc, ◌-◌, ◌*◌, ◌<◌, ◌≤◌, List, ℤ, ◌+ℤ◌, nat_abs, ap, arith}
 use Rattle.std.proofs.lemmas.Int.{ints}
 use Rattle.tier.specs.Sums.{sum_to}
-use Rattle.duals.specs.Duals.{dual_of, DualsInRange, most_dual, sum_of_duals}
+use Rattle.duals.specs.Duals.{DualsInRange, most_dual, sum_of_duals}
 
 -- one stop more
 pub sum_more : (f : ℕ → ℤ) (k : ℕ) → 0 < k → sum_to f k ≡ sum_to f (k - 1) +ℤ f k

@@ -1,14 +1,14 @@
 -- A bottom keeps the nine laws, whatever its duals, if what it is apart from them keeps those that know no duals.
-use Rattle.std.proofs.Common.{◌≡◌, ℕ, ◌+◌, ◌*◌, ◌^◌, ◌<◌, ◌≤◌, Bool, true, false, cond, ◌&&◌, eqb, leb, List, set, ℤ, pos, ◌+ℤ◌, ◌-ℤ◌, nat_abs, Some, None, Option, sym, refl, ap, ◌∙◌, subst, arith}
+use Rattle.std.proofs.Common.{◌≡◌, ℕ, ◌≤◌, Bool, true, false, cond, ◌&&◌, eqb, leb, List, set, ℤ, pos, ◌-ℤ◌, nat_abs, sym, refl, subst, arith}
 use Rattle.std.proofs.lemmas.Int.{ints}
 use Rattle.std.proofs.lemmas.Bool.{leb-true}
 use Rattle.stops.proofs.Lists.{each_set}
 use Rattle.tier.specs.Answers.{Answers, Standing, at_depot, reached}
-use Rattle.tier.specs.Meaning.{Meaning, Outcome, taken, refused, lifted, Comes, here, by_set, by_tighten}
+use Rattle.tier.specs.Meaning.{Outcome, taken, refused, Comes, here, by_set, by_tighten}
 use Rattle.tier.specs.Laws.{Interface, GapLaws, SizeLaws, KeyLaws, Laws, Lawful, Kept}
 use Rattle.tier.proofs.Outcomes.{taken_same, refused_taken, lifted_taken}
-use Rattle.duals.specs.Duals.{dual_of, DualsInRange, most_dual, sum_of_duals, set_dual, tighten_refusal}
-use Rattle.duals.specs.Bottoms.{Base, less_dual, with_duals, plain, BottomValue, bottom_at, bottom, BaseLaws}
+use Rattle.duals.specs.Duals.{dual_of, DualsInRange, most_dual, set_dual}
+use Rattle.duals.specs.Bottoms.{Base, with_duals, plain, BottomValue, bottom_at, bottom, BaseLaws}
 use Rattle.duals.proofs.Credits.{sum_small}
 use Rattle.duals.proofs.Plans.{lessened, lessen, plain_was, plain_is, plans_pay}
 

@@ -1,12 +1,9 @@
 -- The plans of a bottom: the duals that a plan is spared are those of all stops, each once.
 use Rattle.std.proofs.Common.{◌≡◌, ℕ, List, [], ◌∷◌, ℤ, pos, ◌+ℤ◌, ◌-ℤ◌, neg_ℤ, Some, None, Option, sym, refl, ap, ◌∙◌, subst, arith}
-use Rattle.std.specs.List.{AllByRecursion as All}
 use Rattle.std.proofs.lemmas.Int.{ints}
-use Rattle.tier.specs.Answers.{Answers}
 use Rattle.tier.specs.Routes.{Route, reduced_cost}
-use Rattle.tier.specs.Plans.{Plan, total}
 use Rattle.tier.specs.Sums.{sum_over, sum_routes}
-use Rattle.tier.specs.Laws.{Pays, PlansPay}
+use Rattle.tier.specs.Laws.{PlansPay}
 use Rattle.tier.proofs.Options.{none_some, some_same}
 use Rattle.tier.proofs.InStep.{IsInStep, replay_in_step, total_in_step, all_map}
 use Rattle.tier.proofs.Counts.{sum_once}

@@ -4,7 +4,7 @@ use Rattle.stops.specs.Stops.{Stop, most_stops}
 use Rattle.tier.specs.Answers.{Answers, Standing}
 use Rattle.tier.specs.Routes.{reduced_cost}
 use Rattle.tier.specs.Sums.{sum_to}
-use Rattle.tier.specs.Meaning.{Meaning, Outcome, refused, lifted}
+use Rattle.tier.specs.Meaning.{Meaning, refused, lifted}
 use Rattle.tier.specs.Laws.{Interface, GapLaws, KeyLaws}
 use Rattle.duals.specs.Duals.{dual_of, set_dual, tighten_refusal}
 

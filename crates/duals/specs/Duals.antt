@@ -1,5 +1,5 @@
 -- The duals of a bottom: one signed amount for each stop.
-use Rattle.std.specs.Prelude.{ℕ, ◌^◌, ◌≤◌, Bool, cond, ◌&&◌, List, set, replicate, ℤ, pos, ◌==◌, nat_le, slice_index_or, slice_set, unsigned_abs}
+use Rattle.std.specs.Prelude.{ℕ, ◌^◌, ◌≤◌, cond, ◌&&◌, List, replicate, ℤ, pos, ◌==◌, nat_le, slice_index_or, slice_set, unsigned_abs}
 use Rattle.stops.specs.Stops.{most_places}
 use Rattle.tier.specs.Meaning.{Outcome, taken, refused}
 use Rattle.tier.specs.Refusals.{number}

@@ -1,17 +1,16 @@
 -- What the due tokens read and how they are written.
-use Rattle.std.proofs.Common.{◌≡◌, ℕ, zero, suc, ◌+◌, ◌<◌, Bool, true, false, cond, eqb, List, [], ◌∷◌, ◌++◌, length, get_or, drop, Some, None, Ok, Err, decimal, Option, Result, sym, refl, ap, ◌∙◌, subst, append-nil, add-zero, arith}
+use Rattle.std.proofs.Common.{◌≡◌, ℕ, ◌+◌, ◌<◌, true, cond, eqb, List, [], ◌∷◌, ◌++◌, length, drop, Some, None, Ok, Err, decimal, Option, sym, refl, ap, ◌∙◌, append-nil, add-zero, arith}
 use Rattle.std.specs.Str.{bytes_eq}
 use Rattle.std.proofs.lemmas.Slice.Eq.{bytes_eq-Decides}
-use Rattle.std.proofs.lemmas.Bool.{cond_both, eqb-true, false≢true}
+use Rattle.std.proofs.lemmas.Bool.{cond_both, eqb-true}
 use Rattle.text.specs.Tokens.{Seen, opens, closes, blanks, feeds, word, number, negative, ends, scan}
-use Rattle.text.specs.Readers.{Reader, then, and_then}
-use Rattle.text.proofs.Trips.{all_letters, NoLetter, Any, scan_is, scan_spelt, scan_number, scan_sound, written, Spent, SoundAt, Sounds, Takes, sounds_then}
+use Rattle.text.specs.Readers.{and_then}
+use Rattle.text.proofs.Trips.{all_letters, NoLetter, Any, scan_is, scan_spelt, scan_sound, written, Spent, SoundAt, Sounds, Takes, sounds_then}
 use Rattle.words.specs.declared.vocabulary.Keyword.{Keyword}
 use Rattle.words.specs.declared.vocabulary.Keyword.TheVariants.{Deck, Stops, Vans, Capacity, Battery, Most, Stop, Window, Load, Charger, Legs, End, Pile, Round, Town, Price, Set, Tighten}
 use Rattle.form.specs.declared.due.Mark.{Mark}
 use Rattle.form.specs.declared.due.Mark.TheVariants.{Open, Close, Blank, Feed}
-use Rattle.form.specs.declared.fault.FormFault.{FormFault}
-use Rattle.form.specs.declared.fault.FormFault.TheVariants.{Text, NotDue, NoForm}
+use Rattle.form.specs.declared.fault.FormFault.TheVariants.{Text}
 use Rattle.words.specs.Vocabulary.{spelt, keyword_of}
 use Rattle.words.proofs.Inverse.{keyword_spelt, spells_found, Spells, some_letters}
 use Rattle.form.specs.Forms.{undue_of, told, byte_of, unless, mark_due, word_is, word_due, found, name_is, name_due, number_is, number_due}

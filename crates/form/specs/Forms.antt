@@ -1,5 +1,5 @@
 -- Which token is due, and the fault where another stands: 15 for a word in no form, else 14.
-use Rattle.std.specs.Prelude.{ℕ, Bool, true, false, cond, List, Some, None, Ok, Err, Option, Result, ◌==◌}
+use Rattle.std.specs.Prelude.{ℕ, Bool, true, false, cond, Some, None, Ok, Err, Option, Result, ◌==◌}
 use Rattle.std.specs.Str.{bytes_eq}
 use Rattle.text.specs.Tokens.{Seen, opens, closes, blanks, feeds, word, number, negative, ends, scan, amount_at}
 use Rattle.text.specs.Readers.{Reader, then}

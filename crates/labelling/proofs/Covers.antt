@@ -1,6 +1,6 @@
 -- What covers what: a label that is offered is covered from then on, and so is all that was covered before. Assumes
 -- nothing.
-use Rattle.std.proofs.Common.{◌≡◌, ℕ, zero, suc, ◌+◌, ◌<◌, ◌≤◌, Bool, true, false, not, ◌&&◌, ◌||◌, eqb, ◌⊎◌, List, [], ◌∷◌, ◌++◌, ℤ, pos, ◌+ℤ◌, ◌≤ℤ◌, Some, None, filter, Option, sym, refl, ap, ◌∙◌, subst, inl, inr, ⊎_elim, arith}
+use Rattle.std.proofs.Common.{◌≡◌, ℕ, zero, suc, ◌+◌, ◌<◌, ◌≤◌, Bool, true, false, not, eqb, ◌⊎◌, [], ◌∷◌, ◌++◌, ℤ, ◌+ℤ◌, Some, None, filter, Option, sym, refl, ◌∙◌, subst, inl, inr, ⊎_elim, arith}
 use Rattle.std.specs.List.{range_with_len}
 use Rattle.std.proofs.lemmas.Int.{ints}
 use Rattle.std.proofs.lemmas.Bool.{eqb-true, and_parts, or_cases, false≢true, cases_eq}
@@ -9,12 +9,12 @@ use Rattle.tier.specs.Answers.{Answers, Standing, reached}
 use Rattle.tier.specs.Laws.{GapLaws}
 use Rattle.tier.proofs.Options.{none_some, some_same, and_then_some}
 use Rattle.labelling.specs.Members.{In}
-use Rattle.labelling.specs.Labelling.{Label, Table, within_gap, covers, any, child, go_on, go_on_to, take_up, choose, begin}
+use Rattle.labelling.specs.Labelling.{Label, Table, within_gap, covers, any, child, go_on, go_on_to, take_up, choose}
 use Rattle.labelling.specs.Moments.{Passed, at_first, one_turn, Van, van, CoversVan, Live}
 use Rattle.labelling.proofs.Members.{in_push, in_push_cases, any_in}
 use Rattle.labelling.proofs.Traces.{Traced, traced_standing}
 use Rattle.labelling.proofs.Ends.{treated_more}
-use Rattle.labelling.proofs.Holds.{Held, HeldIn, not_struck, live_still, Offered, turned_away, joined, WentOn, barred, came, went_on, Treated, child_traced, treated_in, step, Turned, none_waits, treats, turned, held_up, held_passed}
+use Rattle.labelling.proofs.Holds.{HeldIn, not_struck, live_still, Offered, turned_away, joined, WentOn, barred, came, went_on, Treated, child_traced, treated_in, step, Turned, none_waits, treats, turned, held_up, held_passed}
 
 module _ {S : Type 0} (m : Answers S) where
   -- what the test says

@@ -1,5 +1,5 @@
 -- What holds of the labels and the best total between any two steps, whatever the answers. Assumes nothing.
-use Rattle.std.proofs.Common.{◌≡◌, ℕ, zero, suc, ◌+◌, ◌<◌, ◌≤◌, Bool, true, false, cond, not, ◌&&◌, eqb, ltb, ◌⊎◌, List, [], ◌∷◌, ◌++◌, length, ℤ, pos, ◌+ℤ◌, ◌≤ℤ◌, Some, None, filter, Option, sym, refl, ap, ◌∙◌, subst, inl, inr, ⊎_elim, arith}
+use Rattle.std.proofs.Common.{◌≡◌, ℕ, zero, suc, ◌+◌, ◌<◌, ◌≤◌, Bool, true, false, cond, not, eqb, ltb, ◌⊎◌, List, [], ◌∷◌, ◌++◌, length, ℤ, ◌+ℤ◌, ◌≤ℤ◌, Some, None, filter, Option, sym, refl, ap, ◌∙◌, subst, inl, inr, ⊎_elim, arith}
 use lib.Signed.{lt_z}
 use Rattle.std.specs.List.{range_with_len}
 use Rattle.std.proofs.lemmas.Int.{ints}
@@ -9,7 +9,7 @@ use Rattle.tier.specs.Answers.{Answers}
 use Rattle.tier.proofs.Options.{none_some, some_same, and_then_some}
 use Rattle.labelling.specs.Members.{In}
 use Rattle.labelling.specs.Labelling.{Label, Finished, Table, covers, is_covered, turn_away, strike, add, keep, offer, child, offer_reached, go_on, go_on_to, lower, finish_for, try_finish, take_up, treat_label, choose, treat_of, treat, root, begin, find}
-use Rattle.labelling.specs.Moments.{Passed, at_first, one_turn, Live, BestAtMost}
+use Rattle.labelling.specs.Moments.{Passed, at_first, one_turn, BestAtMost}
 use Rattle.labelling.proofs.Members.{Rising, in_left, in_push, in_push_cases, in_kept, kept_in, rising_kept, rising_push, first_is, others_in, first_or_other, rising_others, others_apart}
 use Rattle.labelling.proofs.Traces.{Traced, at_root, further, traced_more, find_more, find_last, find_still, find_none}
 

@@ -1,10 +1,9 @@
 -- When none waits, the best total is the lowest. Assumes nothing.
-use Rattle.std.proofs.Common.{◌≡◌, ℕ, ◌<◌, Bool, List, [], ℤ, Some, None, Option, sym, refl, ap, ◌∙◌, subst}
+use Rattle.std.proofs.Common.{◌≡◌, ℕ, ◌<◌, Bool, List, [], ℤ, Some, None, Option, refl, subst}
 use Rattle.tier.specs.Answers.{Answers}
-use Rattle.tier.specs.Routes.{Route, reduced_cost}
 use Rattle.tier.specs.Laws.{GapLaws}
 use Rattle.labelling.specs.Members.{In}
-use Rattle.labelling.specs.Labelling.{Label, Finished, Table, root, labelling, route_to}
+use Rattle.labelling.specs.Labelling.{Finished, Table, root, labelling}
 use Rattle.labelling.specs.Moments.{BestAtMost, InView, to_its_end, on_its_way, not_begun, Moment}
 use Rattle.labelling.specs.Lowest.{Found}
 use Rattle.labelling.proofs.Ends.{ends, labelling_passed}

@@ -1,17 +1,17 @@
 -- At every moment an admitted route is in view: followed stop by stop, some label is no worse than its van, treated
 -- up to where one waits. Assumes nothing.
-use Rattle.std.proofs.Common.{◌≡◌, ℕ, ◌<◌, ◌≤◌, Bool, ◌⊎◌, List, [], ◌∷◌, ◌++◌, ℤ, pos, ◌+ℤ◌, ◌≤ℤ◌, Some, None, Option, sym, refl, ap, ◌∙◌, subst, inl, inr, ⊎_elim, arith}
+use Rattle.std.proofs.Common.{◌≡◌, ℕ, ◌<◌, Bool, ◌⊎◌, List, [], ◌∷◌, ◌++◌, ℤ, pos, ◌+ℤ◌, Some, sym, refl, ap, ◌∙◌, subst, inl, inr, ⊎_elim, arith}
 use Rattle.std.specs.List.{AllByRecursion as All}
 use Rattle.std.proofs.lemmas.List.{append-nil, append_assoc}
 use Rattle.std.proofs.lemmas.Int.{ints}
 use Rattle.stops.specs.Stops.{Stop}
 use Rattle.tier.specs.Answers.{Answers, Standing, at_depot, reached}
-use Rattle.tier.specs.Routes.{Route, and_then, plus, replay_from, reduced_cost}
+use Rattle.tier.specs.Routes.{Route, plus, replay_from, reduced_cost}
 use Rattle.tier.specs.Laws.{GapLaws}
 use Rattle.tier.proofs.Options.{and_then_some, plus_some}
 use Rattle.labelling.specs.Members.{In}
 use Rattle.labelling.specs.Labelling.{Label, Finished, Table, child, root, route_to}
-use Rattle.labelling.specs.Moments.{Passed, Van, van, drive, van_after, CoversVan, InView, to_its_end, on_its_way, not_begun, Exact, Moment}
+use Rattle.labelling.specs.Moments.{Passed, Van, van, van_after, CoversVan, InView, to_its_end, on_its_way, not_begun, Exact, Moment}
 use Rattle.labelling.proofs.Traces.{drive_on, replay_through, traced_standing, traced_leads}
 use Rattle.labelling.proofs.Holds.{best_le, HeldIn, held_passed}
 use Rattle.labelling.proofs.Covers.{Covered, covers_through, AllClosed, closed_passed}

@@ -1,6 +1,6 @@
 -- In the order of keys: no waiting label has a lesser key than a treated one, so no label that is offered covers a
 -- treated one. Assumes nothing.
-use Rattle.std.proofs.Common.{◌≡◌, ℕ, zero, suc, ◌+◌, ◌<◌, ◌≤◌, Bool, true, false, not, ◌⊎◌, List, [], ◌∷◌, ◌++◌, ℤ, pos, ◌+ℤ◌, Some, None, filter, Option, sym, refl, ap, ◌∙◌, subst, inl, inr, ⊎_elim, arith}
+use Rattle.std.proofs.Common.{◌≡◌, ℕ, zero, suc, ◌+◌, ◌<◌, ◌≤◌, Bool, true, false, not, List, [], ◌∷◌, ◌++◌, ℤ, Some, filter, sym, refl, ap, subst, inl, inr, ⊎_elim, arith}
 use Rattle.std.specs.List.{range_with_len}
 use Rattle.stops.specs.Stops.{Stop}
 use Rattle.tier.specs.Answers.{Answers, Standing, reached}
@@ -8,10 +8,10 @@ use Rattle.tier.specs.Laws.{KeyLaws}
 use Rattle.tier.proofs.Options.{some_same, and_then_some}
 use Rattle.labelling.specs.Members.{In}
 use Rattle.labelling.specs.Labelling.{Label, Table, covers, child, go_on, go_on_to, take_up, by_key, choose}
-use Rattle.labelling.specs.Moments.{Passed, at_first, one_turn, van, CoversVan}
+use Rattle.labelling.specs.Moments.{Passed, at_first, one_turn}
 use Rattle.labelling.proofs.Members.{Rising, Before, in_push, in_push_cases, kept_in, first_is, others_in, first_before}
 use Rattle.labelling.proofs.Traces.{traced_standing}
-use Rattle.labelling.proofs.Holds.{Held, HeldIn, Offered, turned_away, joined, same_treated, WentOn, barred, came, went_on, treated_in, step, Turned, none_waits, treats, turned, held_up, held_passed}
+use Rattle.labelling.proofs.Holds.{HeldIn, Offered, turned_away, joined, WentOn, barred, came, went_on, treated_in, step, Turned, none_waits, treats, turned, held_up, held_passed}
 use Rattle.labelling.proofs.Covers.{covers_true}
 
 -- the label that is chosen has the least key, and of these the least number

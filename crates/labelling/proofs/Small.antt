@@ -5,7 +5,7 @@ use Rattle.std.proofs.lemmas.Int.{ints}
 use Rattle.tier.specs.Answers.{Answers}
 use Rattle.tier.specs.Routes.{and_then}
 use Rattle.tier.specs.Laws.{SizeLaws, KeyLaws, most_tiers, greatest_key}
-use Rattle.labelling.specs.Labelling.{Label, Finished, Table, find, after_parent, way_to, route_to}
+use Rattle.labelling.specs.Labelling.{Label, Table, find, after_parent, way_to}
 use Rattle.labelling.specs.Moments.{Passed}
 use Rattle.labelling.specs.Lowest.{size_limit, SmallTable}
 use Rattle.labelling.proofs.Traces.{Traced, at_root, further, traced_standing}

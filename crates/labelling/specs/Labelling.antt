@@ -1,6 +1,6 @@
 -- Labelling: how the lowest route is found, as a function of a tier's answers, an order among the keys of states,
 -- and the number of places, which bounds how many labels may be live. How labels are stored is no part of it.
-use Rattle.std.specs.Prelude.{ℕ, zero, suc, ◌+◌, Bool, true, false, cond, not, ◌&&◌, ◌||◌, List, [], ◌∷◌, ◌++◌, length, ℤ, pos, ◌+ℤ◌, Some, None, count_by, filter, Option, ◌==◌, int_le, int_lt, nat_le, nat_lt}
+use Rattle.std.specs.Prelude.{ℕ, zero, suc, ◌+◌, Bool, false, cond, not, ◌&&◌, ◌||◌, List, [], ◌∷◌, ◌++◌, length, ℤ, pos, ◌+ℤ◌, Some, None, count_by, filter, Option, ◌==◌, int_le, int_lt, nat_le, nat_lt}
 use Rattle.std.specs.List.{range_with_len}
 use Rattle.tier.specs.Answers.{Answers}
 use Rattle.tier.specs.Routes.{and_then}

@@ -1,5 +1,5 @@
 -- The lines that follow a deck: which bottom the pile stands on, and then one call a line.
-use Rattle.std.specs.Prelude.{ℕ, zero, suc, ◌+◌, Bool, true, false, cond, List, ℤ, pos, neg_ℤ, Some, None, Ok, Err, Option, Result, nat_le}
+use Rattle.std.specs.Prelude.{ℕ, zero, suc, ◌+◌, Bool, true, false, cond, ℤ, pos, neg_ℤ, Some, None, Ok, Err, Option, Result, nat_le}
 use Rattle.stops.specs.Stops.{most_member, empty_set, just, joined}
 use Rattle.tier.specs.Laws.{greatest_key}
 use Rattle.text.specs.Tokens.{Seen, opens, closes, blanks, feeds, word, number, negative, ends, scan, with_place}
@@ -7,7 +7,7 @@ use Rattle.text.specs.Readers.{Reader, then, and_then, give}
 use Rattle.words.specs.declared.vocabulary.Keyword.{Keyword}
 use Rattle.words.specs.declared.vocabulary.Keyword.TheVariants.{Pile, Round, Town, Price, Set, Tighten}
 use Rattle.words.specs.Vocabulary.{same_word}
-use Rattle.form.specs.declared.due.Mark.TheVariants.{Open, Close, Blank}
+use Rattle.form.specs.declared.due.Mark.TheVariants.{Open, Blank}
 use Rattle.form.specs.declared.fault.FormFault.{FormFault}
 use Rattle.form.specs.declared.fault.FormFault.TheVariants.{Text, NotDue}
 use Rattle.form.specs.Forms.{same, undue_of, mark_due, name_due, number_due, amount_due}
@@ -82,7 +82,7 @@ more_members zero least members = give members
 more_members (suc k) least members = and_then Form more_due (λ more. cond more (and_then same (member_due least) (λ n. more_members k (n + 1) (joined members (just n)))) (give members))
 
 abbrev pub members_from : Option (ℕ × ℕ) → Reader ℕ BookFault
-members_from None = give empty_set
+members_from None bs p = give empty_set bs p
 members_from (Some n) bs p = then same (with_place same (member_of 0 n) p) (λ j q. more_members 64 (j + 1) (just j) bs q)
 
 -- "(", members with a blank between them, and ")"

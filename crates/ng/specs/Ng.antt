@@ -1,5 +1,5 @@
 -- The ng-route relaxation, as a layer over any tier: a route may come back to a stop once it is forgotten.
-use Rattle.std.specs.Prelude.{ℕ, zero, suc, cond, ◌&&◌, List, [], ◌∷◌, ◌++◌, set, ℤ, Some, None, ◌==◌, nat_le, slice_index_or, slice_set, unsigned_abs, refl}
+use Rattle.std.specs.Prelude.{ℕ, zero, suc, cond, ◌&&◌, List, [], ◌∷◌, ◌++◌, ℤ, Some, None, ◌==◌, nat_le, slice_index_or, slice_set, unsigned_abs, refl}
 use Rattle.stops.specs.Stops.{most_places, member, empty_set, just, common, joined, within, all_stops}
 use Rattle.stops.specs.declared.StopSet.{StopSet}
 use Rattle.tier.specs.Meaning.{Meaning, Outcome, taken, refused}

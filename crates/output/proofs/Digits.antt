@@ -1,9 +1,8 @@
 -- The digits of a number, one by one from its end.
-use Rattle.std.proofs.Common.{◌≡◌, ℕ, zero, suc, ◌+◌, ◌-◌, ◌*◌, ◌/◌, ◌%◌, ◌^◌, ◌<◌, ◌≤◌, true, cond, leb, List, [], ◌∷◌, ◌++◌, length, take, drop, decimal, sym, refl, ap, ◌∙◌, subst, append_assoc, arith, length-append}
+use Rattle.std.proofs.Common.{◌≡◌, ℕ, zero, suc, ◌+◌, ◌-◌, ◌/◌, ◌%◌, ◌^◌, ◌<◌, ◌≤◌, List, [], ◌∷◌, ◌++◌, length, decimal, ap, ◌∙◌, append_assoc, arith}
 use Rattle.std.proofs.lemmas.List.{length_push}
-use Rattle.std.proofs.lemmas.Bool.{le-leb}
 use Rattle.std.proofs.lemmas.Fmt.{decimal_step, decimal_digit, decimal_by_steps, length-decimal-le}
-use Rattle.output.specs.Outputs.{padded, put}
+use Rattle.output.specs.Outputs.{padded}
 
 pub padded_back : (i n : ℕ) (tail : List ℕ) → 0 < i → padded i n ++ tail ≡ padded (i - 1) (n / 10) ++ ((48 + n % 10) ∷ tail)
 padded_back zero n tail h = absurd (omega arith)

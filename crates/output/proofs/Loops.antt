@@ -1,5 +1,5 @@
 -- A loop that writes one piece after another.
-use Rattle.std.proofs.Common.{◌≡◌, ℕ, zero, suc, ◌+◌, ◌≤◌, Bool, true, false, cond, leb, List, [], ◌++◌, length, take, drop, IsErrAnd, Ok, Err, Result, sym, refl, ap, ◌∙◌, subst, append-nil, add-zero, arith}
+use Rattle.std.proofs.Common.{◌≡◌, ℕ, suc, ◌+◌, ◌≤◌, Bool, true, false, List, [], length, take, IsErrAnd, Ok, Err, Result, sym, refl, ap, subst, append-nil, add-zero, arith}
 use Rattle.std.proofs.lemmas.Bool.{leb-true, le-leb}
 use Rattle.output.specs.declared.out.Out.{Out}
 use Rattle.output.specs.declared.out.Full.{Full}

@@ -1,23 +1,21 @@
 -- Labelling on the store, turn by turn, beside labelling as defined. Assumes nothing.
-use Rattle.std.proofs.Common.{◌≡◌, ℕ, zero, suc, ◌+◌, ◌*◌, ◌^◌, ◌<◌, ◌≤◌, Bool, true, false, cond, List, [], ◌∷◌, ◌++◌, length, get_or, nat_abs, Some, None, count_by, Option, sym, refl, ap, ◌∙◌, subst, inl, inr, mul-le-mul_right, mul-le-mul_left, arith}
+use Rattle.std.proofs.Common.{◌≡◌, ℕ, zero, suc, ◌+◌, ◌*◌, ◌^◌, ◌<◌, ◌≤◌, Bool, true, false, cond, List, [], ◌∷◌, length, get_or, nat_abs, Some, None, count_by, Option, sym, refl, ap, ◌∙◌, subst, inr, mul-le-mul_right, mul-le-mul_left, arith}
 use Rattle.std.proofs.lemmas.List.{length_push}
 use Rattle.tier.specs.Answers.{Answers}
 use Rattle.tier.specs.Routes.{and_then}
 use Rattle.tier.specs.Laws.{SizeLaws, KeyLaws, most_tiers}
-use Rattle.tier.proofs.Options.{none_some, some_same}
 use Rattle.labelling.specs.Members.{In}
-use Rattle.labelling.specs.Labelling.{Label, Table, by_key, choose, begin, treat_of, treat, turns, labelling}
+use Rattle.labelling.specs.Labelling.{Label, Table, by_key, choose, begin, treat, turns, labelling}
 use Rattle.labelling.specs.Moments.{Passed, at_first, one_turn}
 use Rattle.labelling.proofs.Traces.{traced_standing}
 use Rattle.labelling.proofs.Holds.{held_passed, Turned, none_waits, treats, turned}
 use Rattle.labelling.proofs.Ends.{tally_passed, turns_done, treated_more}
 use Rattle.labelling.proofs.Small.{stays_small}
 use Rattle.store.specs.Places.{Stored, First, Picks}
-use Rattle.store.specs.Works.{Work, Beside, Matches, treat_at}
+use Rattle.store.specs.Works.{Beside, Matches, treat_at}
 use Rattle.store.proofs.Weights.{sum_same, sum_ones, sum_none}
 use Rattle.store.proofs.Alike.{turn_alike, done_alike}
 use Rattle.price.specs.declared.label.Label.{Label as Cell}
-use Rattle.price.specs.declared.label.Status.{Status}
 use Rattle.price.specs.declared.progress.Progress.{Progress}
 use Rattle.price.specs.Labels.{blank, view, is_treated, is_waiting, reading, writing}
 use Rattle.price.specs.Progress.{work, Few, Sound}

@@ -1,10 +1,10 @@
 -- The ways out of a price that was not refused early. Assumes nothing.
-use Rattle.std.proofs.Common.{◌≡◌, ℕ, ◌<◌, List, [], length, replicate, Some, None, Ok, Err, Option, Result, sym, refl, ap, ◌∙◌, subst}
+use Rattle.std.proofs.Common.{◌≡◌, ℕ, List, length, replicate, Some, None, Ok, Err, Option, sym, refl, ap, ◌∙◌, subst}
 use Rattle.tier.specs.Answers.{Answers}
 use Rattle.tier.proofs.Options.{none_some}
 use Rattle.labelling.specs.Labelling.{Table, by_key, labelling}
 use Rattle.labelling.proofs.Ends.{labelling_passed, ends}
-use Rattle.calls.specs.Calls.{Answer, call_refused, early_refusal, labelled, unless_refused, found, priced}
+use Rattle.calls.specs.Calls.{call_refused, early_refusal, labelled, unless_refused, priced}
 use Rattle.calls.proofs.Floors.{Allowed, allowed_or}
 use Rattle.price.specs.declared.answer.Priced.{Priced}
 use Rattle.price.specs.declared.label.Label.{Label as Cell}

@@ -1,11 +1,11 @@
 -- What the store holds when no label waits: each treated label at a place of its own. Assumes nothing.
-use Rattle.std.proofs.Common.{◌≡◌, ℕ, zero, suc, ◌+◌, ◌<◌, ◌≤◌, Bool, true, false, cond, ◌&&◌, ◌||◌, eqb, ◌⊎◌, List, [], ◌∷◌, ◌++◌, length, get_or, Some, None, Option, sym, refl, ap, ◌∙◌, subst, inl, inr, ⊎_elim, arith}
+use Rattle.std.proofs.Common.{◌≡◌, ℕ, zero, suc, ◌<◌, Bool, true, false, cond, ◌&&◌, ◌||◌, eqb, ◌⊎◌, List, [], ◌∷◌, ◌++◌, length, get_or, Some, None, Option, sym, refl, ap, ◌∙◌, subst, inl, inr, ⊎_elim, arith}
 use Rattle.std.proofs.lemmas.List.{get_or_past}
 use Rattle.std.proofs.lemmas.Bool.{eq-eqb, eqb-true, and_parts, and_from, both_ways, cases_Bool, cases_lt, or_from}
 use Rattle.tier.specs.Answers.{Answers}
 use Rattle.tier.proofs.Options.{none_some, some_same}
 use Rattle.labelling.specs.Members.{In}
-use Rattle.labelling.specs.Labelling.{Label, Table, by_key, find, way_to, route_to}
+use Rattle.labelling.specs.Labelling.{Label, Table, by_key, find, route_to}
 use Rattle.labelling.specs.Moments.{Passed}
 use Rattle.labelling.proofs.Traces.{Traced, at_root, further}
 use Rattle.labelling.proofs.Holds.{HeldIn, held_passed}

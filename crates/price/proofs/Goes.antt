@@ -1,5 +1,5 @@
 -- A label that tries to finish, and that goes on. Assumes nothing.
-use Rattle.std.proofs.Common.{◌≡◌, ℕ, cond, eqb, List, get_or, set, ℤ, ◌+ℤ◌, Some, None, Option, sym, refl, ap, ◌∙◌}
+use Rattle.std.proofs.Common.{◌≡◌, ℕ, cond, List, get_or, set, ℤ, ◌+ℤ◌, Some, None, Option, sym, refl, ap, ◌∙◌}
 use Rattle.std.specs.List.{range_with_len}
 use Rattle.std.proofs.lemmas.Bool.{ne_eqb}
 use Rattle.tier.specs.Answers.{Answers}

@@ -1,5 +1,5 @@
 -- The ways out of an offer. Assumes nothing.
-use Rattle.std.proofs.Common.{◌≡◌, ℕ, ◌+◌, ◌-◌, ◌<◌, ◌≤◌, max, Bool, true, false, cond, List, [], ◌∷◌, length, drop, set, Some, None, count_by, Option, sym, refl, ap, ◌∙◌, subst, arith}
+use Rattle.std.proofs.Common.{◌≡◌, ℕ, ◌+◌, ◌-◌, ◌<◌, ◌≤◌, false, cond, List, [], ◌∷◌, length, drop, set, Some, None, count_by, Option, sym, refl, ap, ◌∙◌, subst, arith}
 use Rattle.std.specs.List.{AllByRecursion as All}
 use Rattle.std.proofs.lemmas.List.{length-set, drop-set-lt, drop-drop}
 use Rattle.std.proofs.ByRecursion.{All-drop}
@@ -9,7 +9,7 @@ use Rattle.price.specs.declared.label.Label.{Label as Cell}
 use Rattle.price.specs.declared.progress.Progress.{Progress}
 use Rattle.price.specs.Labels.{blank, is_live, writing}
 use Rattle.price.specs.Places.{Unused, first_free}
-use Rattle.price.specs.Progress.{work, outcome}
+use Rattle.price.specs.Progress.{work}
 
 -- WHICH PLACES ARE USED
 

@@ -1,15 +1,15 @@
 -- What the end of labelling tells. Assumes nothing.
-use Rattle.std.proofs.Common.{◌≡◌, ℕ, ◌+◌, ◌-◌, ◌*◌, ◌^◌, ◌<◌, ◌≤◌, Bool, List, [], ◌++◌, length, take, replicate, ℤ, nat_abs, Some, None, Option, sym, refl, ap, ◌∙◌, subst, mul-le-mul_right, arith}
+use Rattle.std.proofs.Common.{◌≡◌, ℕ, ◌-◌, ◌^◌, ◌≤◌, List, ◌++◌, length, take, replicate, ℤ, nat_abs, Some, None, Option, sym, refl, ap, ◌∙◌, subst, arith}
 use Rattle.std.proofs.lemmas.List.{take-append-le, take_all}
 use Rattle.tier.specs.Answers.{Answers}
 use Rattle.tier.specs.Laws.{SizeLaws, KeyLaws, most_tiers, greatest_key}
-use Rattle.tier.proofs.Options.{none_some, some_same}
+use Rattle.tier.proofs.Options.{some_same}
 use Rattle.labelling.specs.Labelling.{Finished, Table, by_key, labelling, route_to}
 use Rattle.labelling.specs.Moments.{Passed}
 use Rattle.labelling.proofs.Ends.{labelling_passed}
 use Rattle.labelling.proofs.Small.{stays_small}
 use Rattle.store.specs.Works.{BestAt, Holds}
-use Rattle.calls.specs.Calls.{Answer, lowest, no_route, floor, found, counts as table_counts}
+use Rattle.calls.specs.Calls.{lowest, no_route, floor, found, counts as table_counts}
 use Rattle.price.specs.declared.label.Label.{Label as Cell}
 use Rattle.price.specs.declared.progress.Progress.{Progress}
 use Rattle.price.specs.Labels.{writing}

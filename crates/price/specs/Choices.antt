@@ -1,5 +1,5 @@
 -- Which label is treated next.
-use Rattle.std.specs.Prelude.{◌≡◌, ℕ, ◌<◌, ◌≤◌, Bool, true, false, cond, ◌&&◌, ◌||◌, ◌⊎◌, List, Some, None, Option, ◌==◌, nat_lt, slice_index_or}
+use Rattle.std.specs.Prelude.{◌≡◌, ℕ, ◌<◌, ◌≤◌, true, false, cond, ◌&&◌, ◌||◌, ◌⊎◌, List, Some, None, Option, ◌==◌, nat_lt, slice_index_or}
 use Rattle.tier.specs.Answers.{Answers}
 use Rattle.price.specs.declared.label.Label.{Label as Cell}
 use Rattle.price.specs.declared.choices.Candidate.{Candidate}

@@ -1,5 +1,5 @@
 -- The code's labels, read as those of the definition.
-use Rattle.std.specs.Prelude.{◌≡◌, ℕ, Bool, true, false, ◌||◌, ℤ, pos, Some, None, Option, refl}
+use Rattle.std.specs.Prelude.{◌≡◌, ℕ, Bool, true, false, ◌||◌, pos, Some, None, Option, refl}
 use Rattle.std.proofs.Common.{sym, ap, arith}
 use Rattle.labelling.specs.Labelling.{Label}
 use Rattle.store.specs.Places.{Reading}

@@ -5,7 +5,6 @@ use Rattle.labelling.specs.Members.{In}
 use Rattle.labelling.specs.Labelling.{Label, Table, by_key, labelling}
 use Rattle.store.specs.Works.{Beside}
 use Rattle.calls.specs.Calls.{Counts, Answer, call_taken, call_refused, lowest, no_route, found}
-use Rattle.price.specs.declared.answer.Lowest.{Lowest as Best}
 use Rattle.price.specs.declared.answer.Priced.{Priced}
 use Rattle.price.specs.declared.answer.Priced.TheVariants.{Lowest, NoRoute}
 use Rattle.price.specs.declared.label.Label.{Label as Cell}

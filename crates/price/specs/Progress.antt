@@ -1,5 +1,5 @@
 -- How far labelling has come, by the store and what is known beside it.
-use Rattle.std.specs.Prelude.{◌≡◌, ℕ, ◌+◌, ◌^◌, ◌≤◌, Bool, true, false, cond, List, length, ℤ, Some, None, Option, int_lt, unsigned_abs}
+use Rattle.std.specs.Prelude.{ℕ, ◌+◌, ◌^◌, ◌≤◌, Bool, true, false, cond, List, ℤ, Some, None, Option, int_lt, unsigned_abs}
 use Rattle.tier.specs.Answers.{Answers, Standing}
 use Rattle.tier.specs.Laws.{most_tiers}
 use Rattle.store.specs.Works.{Work}

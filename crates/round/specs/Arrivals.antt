@@ -1,5 +1,5 @@
 -- The two facts about arrivals on which the laws of Round rest. Assumes nothing.
-use Rattle.std.specs.Prelude.{◌≡◌, ℕ, ◌<◌, ◌≤◌, ◌≢◌}
+use Rattle.std.specs.Prelude.{ℕ, ◌<◌, ◌≤◌, ◌≢◌}
 use Rattle.std.proofs.Common.{arith}
 use Rattle.book.specs.Books.{Contents}
 use Rattle.book.proofs.Kept.{InRanges, leg_kept}

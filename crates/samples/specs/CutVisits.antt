@@ -1,6 +1,6 @@
 -- Three visits over Round, ng and cuts: one cut at all three stops, and every stop in every neighbourhood. Costs that
 -- are compared without the gap of the cut's bit lose the cheapest route.
-use Rattle.std.specs.Prelude.{ℕ, false, List, [], ◌∷◌, pos, Some, None, Option, slice_set}
+use Rattle.std.specs.Prelude.{ℕ, false, [], ◌∷◌, pos, Some, None, Option, slice_set}
 use Rattle.stops.specs.Stops.{just, joined}
 use Rattle.tier.specs.Answers.{Answers}
 use Rattle.book.specs.Books.{Contents, opened, with_visit, with_leg}

@@ -1,6 +1,6 @@
 -- A tier with a penalty, where the gap decides. Stop 1 is a detour on the way to stop 2: cheaper and earlier, but who
 -- made it pays a penalty of 5 on reaching stop 3. Only from stop 3 the way home is open.
-use Rattle.std.specs.Prelude.{ℕ, ◌+◌, Bool, true, false, cond, not, ◌&&◌, List, [], ◌∷◌, ℤ, pos, Some, None, Option, ◌==◌, nat_le}
+use Rattle.std.specs.Prelude.{ℕ, ◌+◌, Bool, true, false, cond, not, ◌&&◌, ℤ, pos, Some, None, Option, ◌==◌, nat_le}
 use Rattle.tier.specs.Answers.{Answers}
 use Rattle.labelling.specs.Labelling.{by_key}
 use Rattle.calls.specs.Calls.{Answer, priced}

@@ -1,5 +1,5 @@
 -- What a sample tells, as an answer.
-use Rattle.std.specs.Prelude.{List, take}
+use Rattle.std.specs.Prelude.{take}
 use Rattle.calls.specs.Calls.{Answer, call_refused, lowest, no_route}
 use Rattle.samples.specs.declared.prices.Told.{Told}
 use Rattle.samples.specs.declared.prices.Told.TheVariants.{Lowest, NoRoute, Refused}

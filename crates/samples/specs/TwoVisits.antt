@@ -1,5 +1,5 @@
 -- Two visits whose windows both open at minute zero, as a book, and what a price of them answers by the definition.
-use Rattle.std.specs.Prelude.{ℕ, true, false, ℤ, pos, slice_set}
+use Rattle.std.specs.Prelude.{ℕ, true, false, ℤ, slice_set}
 use Rattle.tier.specs.Answers.{Answers}
 use Rattle.book.specs.Books.{Contents, opened, with_visit, with_leg}
 use Rattle.book.specs.declared.parts.Leg.{Leg}

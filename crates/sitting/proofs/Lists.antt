@@ -1,5 +1,5 @@
 -- Vectors of one value, and results of calls that may fail for want of memory. Assumes nothing.
-use Rattle.std.proofs.Common.{◌≡◌, ℕ, zero, suc, ◌-◌, true, false, List, [], ◌∷◌, ◌++◌, take, replicate, is_err, IfOk, IfErr, Ok, Err, Result, sym, refl, ap, ◌∙◌, arith}
+use Rattle.std.proofs.Common.{◌≡◌, ℕ, zero, suc, ◌-◌, true, List, [], ◌++◌, take, replicate, is_err, IfOk, IfErr, Ok, Err, Result, refl, ap, ◌∙◌, arith}
 
 take_nothing : {X : Type 0} (n : ℕ) → ◌≡◌ {A = List X} (take n []) []
 take_nothing zero = refl

@@ -3,7 +3,7 @@ use Rattle.std.proofs.Common.{◌≡◌, ℕ, ◌+◌, ◌<◌, ◌≤◌, List,
 use Rattle.std.proofs.lemmas.List.{append_assoc, append-nil, drop_all, drop_more, take_more, take-map, map-append, length-map}
 use Rattle.tier.specs.Meaning.{Meaning}
 use Rattle.tier.specs.Laws.{Lawful, Kept}
-use Rattle.calls.specs.Calls.{Call, Answer, Entry, step, run, left}
+use Rattle.calls.specs.Calls.{Call, Answer, step, run, left}
 use Rattle.calls.specs.Promises.{Carried, CutShort}
 use Rattle.calls.proofs.Runs.{keeps_promise, keeps_after}
 

@@ -1,5 +1,5 @@
 -- The code's calls and answers, read as those of the definition.
-use Rattle.std.specs.Prelude.{◌≡◌, ℕ, List, Ok, Err, vec_items, Result}
+use Rattle.std.specs.Prelude.{Ok, Err, vec_items, Result}
 use Rattle.tier.specs.Refusals.{number}
 use Rattle.tier.specs.declared.refusal.Refusal.{Refusal}
 use Rattle.price.specs.Prices.{counts}

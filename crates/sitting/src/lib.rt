@@ -1,8 +1,8 @@
 //! A sitting: a pile with a number of vans, reached by set, tighten and price alone.
 #![tactic(auto)]
 
-mod told;
 mod runs;
+mod told;
 
 ghost use Rattle.std.specs.Prelude.{◌≡◌, length};
 ghost use Rattle.tier.specs.Refusals.{Did};
@@ -10,10 +10,10 @@ ghost use Rattle.labelling.specs.Labelling.{by_key, labelling};
 ghost use Rattle.calls.specs.Calls.{early_refusal, priced};
 ghost use Rattle.price.specs.Prices.{answered, stops_told, stops_in, row_after, StoreAfter};
 
-pub use told::{Answer, Call};
 use price::{Label, PriceRefusal, Priced, price};
 use stops::StopSet;
 use tier::{Refusal, Tier};
+pub use told::{Answer, Call};
 
 /// A pile at whatever value it stands, and a number of vans. It holds the pile: only the calls of the
 /// sitting reach it.

@@ -4,7 +4,7 @@ use Rattle.std.proofs.Common.{sym, ap, ◌∙◌, inr}
 use Rattle.tier.specs.Answers.{Answers, Standing}
 use Rattle.tier.specs.Routes.{reduced_cost}
 use Rattle.tier.specs.Meaning.{Meaning, taken}
-use Rattle.tier.specs.Laws.{GapLaws, SizeLaws, KeyLaws, Pays, PlansPay, NoCheaper, Laws, Lawful, most_tiers}
+use Rattle.tier.specs.Laws.{GapLaws, SizeLaws, KeyLaws, PlansPay, NoCheaper, Laws, Lawful, most_tiers}
 use Rattle.tier.specs.Layers.{carry}
 use Rattle.tier.proofs.Shut.{OwedUpToFour}
 use Rattle.tier.proofs.Layers.{fewer_below, small_higher, stands_below, same_replay, carried, total_same, only_below_taken, Layer, layer_lawful}

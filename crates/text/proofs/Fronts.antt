@@ -1,14 +1,13 @@
 -- The longest front of a list that passes a test, and decimal digits.
-use Rattle.std.proofs.Common.{◌≡◌, ℕ, zero, suc, ◌+◌, ◌-◌, ◌*◌, ◌^◌, ◌<◌, ◌≤◌, Bool, true, false, cond, ◌&&◌, ltb, leb, ◌⊎◌, List, [], ◌∷◌, length, get_or, take, drop, Ok, Err, sym, refl, ap, ◌∙◌, inl, inr, arith, length-take, get_or-take, pow-add}
+use Rattle.std.proofs.Common.{◌≡◌, ℕ, zero, suc, ◌+◌, ◌-◌, ◌*◌, ◌^◌, ◌<◌, ◌≤◌, Bool, true, List, [], ◌∷◌, length, get_or, take, drop, Ok, ap, ◌∙◌, arith, get_or-take, pow-add}
 use native.Mathlib.Nat.{pow-le-pow_right}
 use Rattle.std.specs.List.{prefix_len}
 use Rattle.std.proofs.lemmas.List.{length-take-le}
 use Rattle.std.proofs.lemmas.List.Sums.{prefix_len-le-length}
 use Rattle.std.proofs.lemmas.Bool.Decides.{nat_tests}
-use Rattle.text.specs.declared.fault.TextFault.TheVariants.{BadNumber}
 use Rattle.text.specs.declared.runs.Class.{Class}
-use Rattle.text.specs.Tokens.{Seen, number, negative, in_class, front, value_of, well_formed, non_zero, number_at, negative_at}
-use Rattle.text.specs.declared.runs.Class.TheVariants.{Letter, Digit}
+use Rattle.text.specs.Tokens.{number, negative, in_class, front, value_of, well_formed, non_zero, number_at, negative_at}
+use Rattle.text.specs.declared.runs.Class.TheVariants.{Digit}
 
 module _ {X : Type 0} (p : X → Bool) (d : X) where
   pub passes : (xs : List X) (k : ℕ) → k < prefix_len p xs → p (get_or xs k d) ≡ true

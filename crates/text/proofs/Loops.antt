@@ -1,7 +1,7 @@
 -- A loop of a cursor that reads one thing after another.
-use Rattle.std.proofs.Common.{◌≡◌, ℕ, zero, suc, ◌+◌, IsErrAnd, Ok, Err, Result, sym, refl, ap, ◌∙◌, subst}
+use Rattle.std.proofs.Common.{◌≡◌, ℕ, suc, ◌+◌, IsErrAnd, Ok, Err, Result, sym, subst}
 use Rattle.text.specs.declared.cursor.Cursor.{Cursor}
-use Rattle.text.specs.Readers.{Reader, Read, give, and_then, repeated}
+use Rattle.text.specs.Readers.{Reader, Read, repeated}
 use Rattle.text.proofs.Reading.{steps, escapes, gives}
 
 module _ {S X E : Type 0} (step : S → ℕ → Reader X E) (next : S → ℕ → X → S) (all : Reader S E) (start : Cursor) where

@@ -1,8 +1,7 @@
 -- How the steps of a cursor follow one another.
-use Rattle.std.proofs.Common.{◌≡◌, ℕ, List, IsErrAnd, Ok, Err, Result, sym, refl, ap, ◌∙◌}
+use Rattle.std.proofs.Common.{◌≡◌, IsErrAnd, Ok, Err, Result, refl, ap, ◌∙◌}
 use Rattle.std.proofs.lemmas.Result.{err_from_is_err_and}
 use Rattle.text.specs.declared.cursor.Cursor.{Cursor}
-use Rattle.text.specs.Tokens.{with_place}
 use Rattle.text.specs.Readers.{Reader, Read, then, and_then, give}
 
 -- a step, and the rest of the reader after it

@@ -1,20 +1,18 @@
 -- What is written is read back, and what is read is what would be written.
-use Rattle.std.proofs.Common.{◌≡◌, ℕ, zero, suc, ◌+◌, ◌-◌, ◌*◌, ◌^◌, ◌<◌, ◌≤◌, Bool, true, false, cond, not, ◌&&◌, ◌||◌, eqb, ltb, leb, ◌⊎◌, List, [], ◌∷◌, ◌++◌, length, get_or, take, drop, Ok, Err, decimal, Result, sym, refl, ap, ◌∙◌, subst, inl, inr, ⊎_elim, append_assoc, append-nil, add-zero, one-add, arith, length-append, length-drop, rules}
-use Rattle.std.specs.Int.{IsInRange}
+use Rattle.std.proofs.Common.{◌≡◌, ℕ, suc, ◌+◌, ◌-◌, ◌^◌, ◌<◌, ◌≤◌, Bool, true, false, cond, ◌&&◌, eqb, ltb, List, [], ◌∷◌, ◌++◌, length, get_or, take, drop, Ok, Err, decimal, Result, sym, refl, ap, ◌∙◌, subst, ⊎_elim, append_assoc, add-zero, one-add, arith, length-append, length-drop, rules}
 use Rattle.std.specs.List.{prefix_len}
 use Rattle.std.proofs.lemmas.List.{get_or-drop, drop-drop, drop_more, take-append-drop, take_at, drop_at}
-use Rattle.std.proofs.lemmas.Bool.{cond_both, ltb-true, lt-ltb, eqb-true, cases_Bool, cases_lt}
+use Rattle.std.proofs.lemmas.Bool.{cond_both, ltb-true, lt-ltb, eqb-true, cases_lt}
 use Rattle.std.proofs.lemmas.Bool.Decides.{nat_tests}
-use Rattle.std.proofs.lemmas.Str.Parse.{IsNumeralModel, numerals_by_fold, IsDigitsTest, FoldsDigits, digits_value_short}
+use Rattle.std.proofs.lemmas.Str.Parse.{IsNumeralModel, numerals_by_fold, digits_value_short}
 use Rattle.std.proofs.lemmas.Fmt.{digits_decimal, digits_value-decimal, decimal-digits_value, decimal_nonempty, first_decimal, length-decimal-le, decimal_digit}
 use Rattle.text.specs.declared.runs.Class.{Class}
 use Rattle.text.specs.declared.runs.Class.TheVariants.{Letter, Digit}
 use Rattle.text.specs.declared.fault.TextFault.{TextFault}
-use Rattle.text.specs.declared.fault.TextFault.TheVariants.{NoKind, BadNumber}
 use Rattle.text.specs.Tokens.{Seen, opens, closes, blanks, feeds, word, number, negative, ends, in_class, read_on, value_of, front, well_formed, word_at, number_at, token, scan}
 use Rattle.text.specs.declared.cursor.Cursor.{Cursor}
 use Rattle.text.specs.Readers.{Reader, Read, then, and_then, give}
-use Rattle.text.proofs.Fronts.{passes, length_front, front_passes}
+use Rattle.text.proofs.Fronts.{length_front}
 
 abbrev pub all_in : Class → List ℕ → Bool
 all_in k [] = true

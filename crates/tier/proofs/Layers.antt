@@ -1,5 +1,5 @@
 -- What every layer needs: what stands below it, which calls went down, and how it becomes lawful. Assumes nothing.
-use Rattle.std.proofs.Common.{◌≡◌, ℕ, ◌+◌, ◌*◌, ◌^◌, ◌≤◌, min, eqb, ◌⊎◌, List, [], ◌∷◌, ℤ, nat_abs, Some, None, Option, sym, refl, ap, ◌∙◌, subst, inl, inr, ⊎_elim, arith}
+use Rattle.std.proofs.Common.{◌≡◌, ℕ, ◌≤◌, eqb, ◌⊎◌, List, [], ◌∷◌, ℤ, Some, None, Option, sym, refl, ap, ◌∙◌, subst, inl, inr, ⊎_elim, arith}
 use Rattle.std.proofs.lemmas.Bool.{cond_both}
 use Rattle.stops.specs.Stops.{most_stops}
 use Rattle.tier.specs.Answers.{Answers, Standing, at_depot, reached}

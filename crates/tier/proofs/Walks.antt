@@ -1,11 +1,10 @@
 -- A replay, stop by stop: what is left to go, and how much it has cost. Assumes nothing.
-use Rattle.std.proofs.Common.{◌≡◌, ℕ, ◌+◌, ◌*◌, ◌^◌, ◌<◌, ◌≤◌, List, [], ◌∷◌, length, get_or, drop, ℤ, pos, ◌+ℤ◌, nat_abs, Some, None, Option, sym, refl, ap, ◌∙◌, ⊎_elim, add-one, arith, drop-cons}
-use Rattle.std.proofs.lemmas.Int.{ints}
+use Rattle.std.proofs.Common.{◌≡◌, ℕ, ◌+◌, ◌^◌, ◌<◌, ◌≤◌, List, ◌∷◌, length, get_or, drop, ℤ, ◌+ℤ◌, nat_abs, Some, None, sym, ap, ◌∙◌, ⊎_elim, add-one, arith, drop-cons}
 use Rattle.std.proofs.lemmas.List.{drop_all}
 use Rattle.std.proofs.lemmas.Bool.{cases_lt}
-use Rattle.tier.specs.Answers.{Answers, Standing, reached}
+use Rattle.tier.specs.Answers.{Answers, Standing}
 use Rattle.tier.specs.Routes.{and_then, plus, replay_from, reduced_cost}
-use Rattle.tier.specs.Laws.{Interface, Shut, SizeLaws, KeyLaws, most_tiers}
+use Rattle.tier.specs.Laws.{Interface, SizeLaws, most_tiers}
 use Rattle.tier.proofs.Options.{none_some, plus_plus}
 
 module _ {S : Type 0} (m : Answers S) where

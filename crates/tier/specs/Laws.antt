@@ -6,7 +6,7 @@ use Rattle.stops.specs.Stops.{Stop, most_stops}
 use Rattle.tier.specs.Answers.{Answers, Standing}
 use Rattle.tier.specs.Routes.{Route, reduced_cost}
 use Rattle.tier.specs.Plans.{Plan, total}
-use Rattle.tier.specs.Meaning.{Meaning, Outcome, taken, Comes}
+use Rattle.tier.specs.Meaning.{Meaning, taken, Comes}
 
 -- over this many tiers nothing is reached
 abbrev pub most_tiers : ℕ

@@ -1,5 +1,5 @@
 -- Plans: routes that together visit every stop exactly once.
-use Rattle.std.specs.Prelude.{◌≡◌, ℕ, ◌+◌, ◌≤◌, List, [], ◌∷◌, length, ℤ, pos, Some, None, count_by, Option, nat_eq}
+use Rattle.std.specs.Prelude.{◌≡◌, ℕ, ◌+◌, ◌≤◌, List, [], ◌∷◌, length, ℤ, pos, Some, count_by, Option, nat_eq}
 use Rattle.std.specs.List.{AllByRecursion as All}
 use Rattle.stops.specs.Stops.{Stop}
 use Rattle.tier.specs.Routes.{Route, and_then, plus}

@@ -1,6 +1,6 @@
-use Rattle.std.proofs.Common.{◌≡◌, suc, ◌+◌, ◌-◌, ◌≤◌, sym, refl, ap, ◌∙◌, subst, arith}
+use Rattle.std.proofs.Common.{◌≡◌, suc, ◌+◌, ◌-◌, sym, refl, ◌∙◌, arith}
 use Rattle.text.proofs.Loops.{again, faulty, whole}
-use Rattle.book.specs.Books.{Contents, contents}
+use Rattle.book.specs.Books.{contents}
 use Rattle.book.proofs.Kept.{in_ranges, stops_kept}
 use Rattle.deck.specs.Lines.{leg_line}
 use Rattle.deck.proofs.LegLoop.{kept}

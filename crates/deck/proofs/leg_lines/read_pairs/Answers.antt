@@ -1,4 +1,4 @@
-use Rattle.std.proofs.Common.{◌≡◌, suc, ◌+◌, ◌-◌, ◌≤◌, sym, refl, ap, ◌∙◌, subst, arith}
+use Rattle.std.proofs.Common.{◌≡◌, suc, ◌+◌, ◌-◌, sym, ap, ◌∙◌, arith}
 use Rattle.text.proofs.Loops.{again, faulty, whole}
 use Rattle.book.specs.Books.{Contents, contents, with_leg}
 use Rattle.book.proofs.Kept.{in_ranges, stops_kept}

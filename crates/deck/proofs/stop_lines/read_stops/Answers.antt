@@ -1,9 +1,7 @@
-use Rattle.std.proofs.Common.{◌≡◌, ◌+◌, ◌-◌, ◌≤◌, Ok, Err, sym, refl, ap, ◌∙◌, subst, arith}
-use Rattle.text.specs.Readers.{Read}
+use Rattle.std.proofs.Common.{◌≡◌, ◌+◌, ◌-◌, sym, ap, ◌∙◌, arith}
 use Rattle.text.proofs.Loops.{again, faulty, whole}
-use Rattle.form.specs.Forms.{same}
 use Rattle.book.specs.Books.{Contents, contents, with_visit}
-use Rattle.deck.specs.Lines.{stop_line, stop_lines}
+use Rattle.deck.specs.Lines.{stop_line}
 use Rattle.deck.proofs.StopLoop.{taken}
 use Rattle.deck.proofs.stop_lines.read_stops.Goals as goal
 

@@ -1,4 +1,4 @@
-use Rattle.std.proofs.Common.{◌≡◌, ◌+◌, ◌-◌, ◌≤◌, length, decimal}
+use Rattle.std.proofs.Common.{◌≡◌, ◌+◌, ◌≤◌, length, decimal}
 use Rattle.output.proofs.printers.width.Given as goal
 
 abbrev pub invariant-loop-rest : goal.invariant-loop-rest

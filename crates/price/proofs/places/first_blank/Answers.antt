@@ -1,4 +1,4 @@
-use Rattle.std.proofs.Common.{drop, sym, refl, ap, ◌∙◌, arith}
+use Rattle.std.proofs.Common.{drop, ap, ◌∙◌, arith}
 use Rattle.price.specs.Places.{first_free}
 use Rattle.price.proofs.Scans.{free_no, free_yes, free_rest, free_none}
 use Rattle.price.proofs.places.first_blank.Goals as goal

@@ -1,8 +1,7 @@
-use Rattle.std.proofs.Common.{map, length, set, sym, refl, ap, ◌∙◌, subst, arith}
+use Rattle.std.proofs.Common.{set, refl, ap, ◌∙◌, arith}
 use Rattle.store.specs.Works.{falls}
 use Rattle.price.specs.Labels.{blank, writing}
-use Rattle.price.specs.Places.{Unused}
-use Rattle.price.proofs.Maps.{blanked, blanking_yes, blanking_no, blanking_rest, rest_blank}
+use Rattle.price.proofs.Maps.{blanking_yes, blanking_no, blanking_rest, rest_blank}
 use Rattle.price.proofs.places.strike.Goals as goal
 use Rattle.price.proofs.places.strike.Goals.{then-falls, else-falls}
 

@@ -1,4 +1,4 @@
-use Rattle.std.proofs.Common.{drop, sym, refl, ap, ◌∙◌, arith}
+use Rattle.std.proofs.Common.{drop, refl, ap, ◌∙◌, arith}
 use Rattle.labelling.specs.Labelling.{any}
 use Rattle.price.specs.Labels.{blank}
 use Rattle.price.specs.Places.{blocks}

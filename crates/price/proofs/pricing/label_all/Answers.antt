@@ -1,4 +1,4 @@
-use Rattle.std.proofs.Common.{◌≡◌, length, set, replicate, None, sym, refl, ap, ◌∙◌, subst, arith}
+use Rattle.std.proofs.Common.{length, set, replicate, None, sym, ap, ◌∙◌, subst, arith}
 use Rattle.labelling.specs.Labelling.{begin}
 use Rattle.store.specs.Works.{Beside}
 use Rattle.price.specs.Labels.{blank, waiting, root, writing}

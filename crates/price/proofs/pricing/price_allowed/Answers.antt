@@ -1,4 +1,4 @@
-use Rattle.std.proofs.Common.{◌≡◌, length, sym, refl, ap, ◌∙◌, subst}
+use Rattle.std.proofs.Common.{length, sym, refl, subst}
 use Rattle.price.specs.Prices.{ToldFrom, Tells}
 use Rattle.price.proofs.Endings.{allowed, told_from, answer_ok, stops_ok, row_ok, store_ok, full}
 use Rattle.price.proofs.pricing.price_allowed.Goals as goal

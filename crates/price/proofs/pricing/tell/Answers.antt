@@ -1,12 +1,11 @@
-use Rattle.std.proofs.Common.{◌≡◌, ◌-◌, ◌^◌, ◌≤◌, length, take, replicate, ℤ, nat_abs, sym, refl, ap, ◌∙◌, subst, arith, w64, to_z, of_z}
+use Rattle.std.proofs.Common.{◌≡◌, ◌-◌, length, take, replicate, ap, ◌∙◌, subst, arith, w64, to_z, of_z}
 use Rattle.std.proofs.lemmas.Int.{ints}
 use Rattle.tier.specs.Laws.{Laws}
 use Rattle.tier.specs.Meaning.{here}
-use Rattle.labelling.specs.Labelling.{Table}
 use Rattle.calls.specs.Calls.{lowest, no_route, floor, found}
 use Rattle.price.specs.Prices.{counts, stops_in, row_after}
 use Rattle.price.proofs.Files.{falls_back}
-use Rattle.price.proofs.Tellings.{Best, passed, the_table, best_of, none_best, short, small, tells, tells_none}
+use Rattle.price.proofs.Tellings.{passed, the_table, best_of, none_best, short, small, tells, tells_none}
 use Rattle.price.proofs.pricing.tell.Given as given
 use Rattle.price.proofs.pricing.tell.Goals as goal
 use Rattle.price.proofs.pricing.tell.Goals.{In-Some}

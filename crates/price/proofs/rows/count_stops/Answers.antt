@@ -1,6 +1,6 @@
-use Rattle.std.proofs.Common.{◌≡◌, ◌+◌, ◌-◌, ◌<◌, length, sym, refl, ap, ◌∙◌, arith, rules}
+use Rattle.std.proofs.Common.{◌-◌, length, refl, arith}
 use Rattle.price.specs.Routes.{way_back}
-use Rattle.price.proofs.Ways.{Back, back_start, none_left, up_within, behind}
+use Rattle.price.proofs.Ways.{back_start, none_left, up_within, behind}
 use Rattle.price.proofs.rows.count_stops.Goals as goal
 
 pub loop-label-init : goal.loop-label-init

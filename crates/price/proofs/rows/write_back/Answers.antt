@@ -1,5 +1,5 @@
-use Rattle.std.proofs.Common.{◌≡◌, ◌+◌, ◌-◌, ◌<◌, ◌≤◌, [], ◌∷◌, ◌++◌, length, drop, set, sym, refl, ap, ◌∙◌, subst, arith, rules}
-use Rattle.price.specs.Routes.{way_in, way_back}
+use Rattle.std.proofs.Common.{◌-◌, ◌<◌, ◌++◌, length, drop, sym, refl, ap, ◌∙◌, arith, rules}
+use Rattle.price.specs.Routes.{way_in}
 use Rattle.std.proofs.lemmas.List.{length-set}
 use Rattle.price.proofs.Ways.{back_start, at_root, none_left, some_left, up_within, behind}
 use Rattle.price.proofs.Fills.{back_one}

@@ -1,4 +1,4 @@
-use Rattle.std.proofs.Common.{◌≡◌, ◌-◌, ◌++◌, length, take, drop, replicate, sym, refl, ap, ◌∙◌, subst}
+use Rattle.std.proofs.Common.{◌-◌, ◌++◌, length, replicate, ap, ◌∙◌}
 use Rattle.price.specs.Routes.{way_back}
 use Rattle.price.proofs.Fills.{take_way}
 use Rattle.price.proofs.rows.write_route.Goals as goal

@@ -1,4 +1,4 @@
-use Rattle.std.proofs.Common.{◌≡◌, ◌<◌, ◌≤◌, Bool, true, false, length, None, sym, refl, ap, ◌∙◌, subst, arith}
+use Rattle.std.proofs.Common.{length, None, sym, subst, arith}
 use Rattle.std.proofs.lemmas.List.Sums.{count_by-le-length}
 use Rattle.tier.specs.Meaning.{here}
 use Rattle.tier.specs.Laws.{Laws}
@@ -7,7 +7,7 @@ use Rattle.store.specs.Works.{Matches}
 use Rattle.price.specs.Labels.{is_treated, writing}
 use Rattle.price.specs.Progress.{outcome}
 use Rattle.price.proofs.Steps.{not_ok}
-use Rattle.price.proofs.Along.{treated_in, begins, done, few, sound, crowded, further}
+use Rattle.price.proofs.Along.{begins, done, few, sound, crowded, further}
 use Rattle.price.proofs.runs.treat_all.Given as given
 use Rattle.price.proofs.runs.treat_all.Goals as goal
 

@@ -1,10 +1,9 @@
-use Rattle.std.proofs.Common.{◌≡◌, ◌<◌, length, get_or, sym, refl, ap, ◌∙◌, subst, arith}
+use Rattle.std.proofs.Common.{◌<◌, length, sym, ◌∙◌, subst, arith}
 use Rattle.std.proofs.lemmas.List.{get_or_read, length-set}
 use Rattle.price.specs.Labels.{blank, marked}
 use Rattle.price.specs.Progress.{Sound}
 use Rattle.price.proofs.Keeps.{unused_put}
 use Rattle.price.proofs.Goes.{treats}
-use Rattle.price.proofs.turns.treat.Given as given
 use Rattle.price.proofs.turns.treat.Goals as goal
 
 pub go_on_to_all-requires : goal.go_on_to_all-requires

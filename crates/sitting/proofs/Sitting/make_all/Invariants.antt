@@ -1,5 +1,5 @@
 use Rattle.std.proofs.Common.{◌≡◌, ◌++◌, map, take, drop, vec_items}
-use Rattle.calls.specs.Calls.{Entry, run, left}
+use Rattle.calls.specs.Calls.{run, left}
 use Rattle.sitting.specs.Answers.{called, meant}
 use Rattle.sitting.proofs.Sitting.make_all.Given as goal
 

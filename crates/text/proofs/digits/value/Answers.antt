@@ -1,7 +1,7 @@
-use Rattle.std.proofs.Common.{◌≡◌, length, get_or, drop, sym, ap, ◌∙◌, arith}
+use Rattle.std.proofs.Common.{get_or, sym, ◌∙◌, arith}
 use Rattle.std.proofs.lemmas.List.{at_drop_more, at_drop_all}
 use Rattle.text.specs.Tokens.{read_on}
-use Rattle.text.proofs.Fronts.{digit_range, power_more, power_le}
+use Rattle.text.proofs.Fronts.{digit_range, power_more}
 use Rattle.text.proofs.digits.value.Goals as goal
 
 pub loop-digit-preserved : goal.loop-digit-preserved

@@ -1,6 +1,6 @@
-use Rattle.std.proofs.Common.{◌≡◌, ◌*◌, ◌^◌, ◌<◌, ◌≤◌, get_or, pos, ◌+ℤ◌, nat_abs, Some, sym, ◌∙◌, subst, arith}
+use Rattle.std.proofs.Common.{◌≡◌, ◌^◌, ◌<◌, ◌≤◌, get_or, nat_abs, Some, sym, ◌∙◌, subst, arith}
 use Rattle.std.proofs.lemmas.Int.{ints}
-use Rattle.tier.specs.Answers.{Answers, Standing, at_depot, reached}
+use Rattle.tier.specs.Answers.{Standing, at_depot, reached}
 use Rattle.tier.specs.Meaning.{here}
 use Rattle.tier.specs.Replays.{Went}
 use Rattle.tier.specs.Laws.{Laws}

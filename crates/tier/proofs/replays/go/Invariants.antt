@@ -1,5 +1,5 @@
-use Rattle.std.proofs.Common.{◌≡◌, ◌*◌, ◌^◌, ◌≤◌, length, drop, nat_abs}
-use Rattle.tier.specs.Answers.{Answers, Standing}
+use Rattle.std.proofs.Common.{◌≡◌, ◌*◌, ◌^◌, ◌≤◌, drop, nat_abs}
+use Rattle.tier.specs.Answers.{Standing}
 use Rattle.tier.specs.Routes.{plus, replay_from, reduced_cost}
 use Rattle.tier.proofs.replays.go.Given as goal
 

@@ -1,5 +1,4 @@
-use Rattle.std.proofs.Common.{◌≡◌, suc, ◌+◌, ◌-◌, sym, refl, ap, ◌∙◌, subst, arith}
-use Rattle.output.specs.Outputs.{Wrote}
+use Rattle.std.proofs.Common.{◌≡◌, suc, ◌+◌, ◌-◌, arith}
 use Rattle.output.proofs.Loops.{room_after, again, full, whole}
 use Rattle.book.specs.Books.{contents}
 use Rattle.book.proofs.Kept.{in_ranges, stops_kept}

@@ -1,4 +1,4 @@
-use Rattle.std.proofs.Common.{◌≡◌, suc, ◌+◌, ◌-◌, ◌≤◌}
+use Rattle.std.proofs.Common.{suc, ◌+◌, ◌-◌, ◌≤◌}
 use Rattle.output.proofs.Loops.{Room, Onward}
 use Rattle.book.specs.Books.{contents}
 use Rattle.deck.specs.Bytes.{leg_line_bytes, leg_lines_bytes}

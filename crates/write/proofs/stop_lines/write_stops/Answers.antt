@@ -1,4 +1,4 @@
-use Rattle.std.proofs.Common.{◌≡◌, ◌+◌, ◌-◌, Ok, Err, sym, refl, ap, ◌∙◌, subst, arith}
+use Rattle.std.proofs.Common.{◌≡◌, ◌+◌, ◌-◌, Ok, Err, subst, arith}
 use Rattle.output.specs.Outputs.{Wrote}
 use Rattle.output.proofs.Loops.{room_after, again, full, whole}
 use Rattle.book.specs.Books.{contents, visit_at}

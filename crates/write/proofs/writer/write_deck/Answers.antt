@@ -1,4 +1,4 @@
-use Rattle.std.proofs.Common.{◌≡◌, sym, refl, ap, ◌∙◌, subst, rules}
+use Rattle.std.proofs.Common.{refl, rules}
 use Rattle.book.specs.Books.{contents}
 use Rattle.book.proofs.Kept.{in_ranges}
 use Rattle.deck.proofs.DeckTrips.{read_back, written_back}

@@ -1,4 +1,4 @@
-use Rattle.std.proofs.Common.{◌≡◌, subst}
+use Rattle.std.proofs.Common.{subst}
 use Rattle.output.specs.Outputs.{Wrote}
 use Rattle.deck.specs.Bytes.{first_line_bytes}
 use Rattle.write.proofs.writer.write_first.Goals as goal

@@ -1,8 +1,7 @@
-use Rattle.std.proofs.Common.{◌≡◌, ◌+◌, ◌*◌, ◌<◌, ◌≤◌, length, get_or, Some, sym, ap, ◌∙◌, arith, rules}
+use Rattle.std.proofs.Common.{◌≡◌, ◌+◌, ◌*◌, ◌<◌, length, Some, ap, arith, rules}
 use Rattle.std.proofs.lemmas.List.{get_or_default}
 use Rattle.std.proofs.lemmas.Bool.{ne_eqb, le-leb}
 use Rattle.book.specs.Ranges.{blank_leg}
-use Rattle.book.specs.declared.parts.Leg.{Leg}
 use Rattle.book.proofs.Fits.{few_stops}
 use Rattle.book.proofs.book.Book.leg.Goals as goal
 

@@ -1,6 +1,6 @@
 use Rattle.std.proofs.Common.{◌+◌, ◌*◌, ◌∙◌, arith, length-set}
 use Rattle.book.specs.Books.{contents}
-use Rattle.book.proofs.Fits.{few_stops, apart_of, legs_put, TakenLeg, taken_leg}
+use Rattle.book.proofs.Fits.{few_stops, apart_of, legs_put, taken_leg}
 use Rattle.book.proofs.book.Book.put_leg.Goals as goal
 
 pub overflow_mul-leg : goal.overflow_mul-leg

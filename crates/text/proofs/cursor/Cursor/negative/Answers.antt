@@ -1,4 +1,4 @@
-use Rattle.std.proofs.Common.{◌≡◌, ◌+◌, ◌-◌, length, take, drop, sym, refl, ap, ◌∙◌, arith}
+use Rattle.std.proofs.Common.{◌≡◌, ◌+◌, ◌-◌, length, take, drop, sym, refl, ap, arith}
 use Rattle.text.specs.declared.runs.Class.TheVariants.{Digit}
 use Rattle.text.specs.Tokens.{in_class}
 use Rattle.text.proofs.Fronts.{cut, front_passes, negative_good, non_zero_few}
