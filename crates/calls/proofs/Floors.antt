@@ -1,7 +1,7 @@
 -- A price that is answered is right, and its floor is under every plan. Assumes nothing.
 use Rattle.std.proofs.Common.{◌≡◌, ℕ, suc, ◌*◌, ◌<◌, ◌≤◌, Bool, ◌||◌, eqb, ltb, List, [], ◌∷◌, length, ℤ, pos, negsuc, ◌+ℤ◌, ◌*ℤ◌, neg_ℤ, ◌≤ℤ◌, Some, None, Option, refl, mul-le-mul_right, arith}
 use Rattle.std.specs.Int.{int_min}
-use Rattle.std.specs.List.{AllByRecursion as All}
+use Rattle.std.specs.List.{AllByRecursion}
 use Rattle.std.proofs.lemmas.Int.{ints}
 use Rattle.std.proofs.lemmas.Bool.{cond_both, ltb-true, ltb-false, eqb-false, or_parts}
 use Rattle.tier.specs.Answers.{Answers}
@@ -33,7 +33,7 @@ times_depth vans (negsuc n) = refl
 
 module _ {S : Type 0} (m : Answers S) (c : ℤ) (least : (r : List ℕ) (b : ℤ) → Route m.stops r → reduced_cost m r ≡ Some b → c ≤ℤ b) where
   -- each route falls at most as far below 0 as the lowest
-  sum_above : (rs : List (List ℕ)) (z : ℤ) → All (Route m.stops) rs → total (reduced_cost m) rs ≡ Some z → pos 0 ≤ℤ (z +ℤ pos (length rs * depth c))
+  sum_above : (rs : List (List ℕ)) (z : ℤ) → AllByRecursion (Route m.stops) rs → total (reduced_cost m) rs ≡ Some z → pos 0 ≤ℤ (z +ℤ pos (length rs * depth c))
   sum_above [] z a e = let s = some_same e in omega (arith, ints)
   sum_above (r ∷ rs) z a e =
       let b = and_then_some (reduced_cost m r) (λ x. plus x (total (reduced_cost m) rs)) z e in

@@ -1,6 +1,6 @@
 -- Over a run: what calls keep, and what they may only tighten. Assumes nothing.
 use Rattle.std.proofs.Common.{◌≡◌, ℕ, false, List, [], ◌∷◌, ◌++◌, length, ℤ, Option, sym, refl, ap, ◌∙◌, subst, arith}
-use Rattle.std.specs.List.{AllByRecursion as All}
+use Rattle.std.specs.List.{AllByRecursion}
 use Rattle.std.proofs.lemmas.List.{length-append}
 use Rattle.std.proofs.lemmas.Int.{ints}
 use Rattle.std.proofs.lemmas.Bool.{true≢false}
@@ -144,11 +144,11 @@ module _ {S : Type 0} (d : Meaning S) (vans : ℕ) (v : d.Value) (lawful : Lawfu
 
   -- A RUN
 
-  all_right : (w : d.Value) (cs : List Call) → Comes d v w → All (λ e. Right (d.answers e.value) (d.ground_of e.value) vans e.answer) (run d vans w cs)
+  all_right : (w : d.Value) (cs : List Call) → Comes d v w → AllByRecursion (λ e. Right (d.answers e.value) (d.ground_of e.value) vans e.answer) (run d vans w cs)
   all_right w [] h = tt
   all_right w (c ∷ cs) h = (right_at w c h, all_right (after w c) cs (comes_after w c h))
 
-  all_kept : (w : d.Value) (cs : List Call) → Comes d v w → Kept d v w → All (λ e. Kept d v e.value) (run d vans w cs)
+  all_kept : (w : d.Value) (cs : List Call) → Comes d v w → Kept d v w → AllByRecursion (λ e. Kept d v e.value) (run d vans w cs)
   all_kept w [] h k = tt
   all_kept w (c ∷ cs) h k = (k, all_kept (after w c) cs (comes_after w c h) (kept_twice v w (after w c) k (kept_after w c h)))
 
@@ -174,7 +174,7 @@ module _ {S : Type 0} (d : Meaning S) (vans : ℕ) (v : d.Value) (lawful : Lawfu
     is : entry at call ≡ e
     tightened : Tightened (d.answers w) (d.answers at)
 
-  later : (w : d.Value) (cs : List Call) (between rest : List (Entry d.Value)) (e : Entry d.Value) → Comes d v w → All (λ e. is_taken_set e.call e.answer ≡ false) between → run d vans w cs ≡ between ++ e ∷ rest → Later w e
+  later : (w : d.Value) (cs : List Call) (between rest : List (Entry d.Value)) (e : Entry d.Value) → Comes d v w → AllByRecursion (λ e. is_taken_set e.call e.answer ≡ false) between → run d vans w cs ≡ between ++ e ∷ rest → Later w e
   later w [] between rest e h n q = absurd (not_empty between rest e q)
   later w (c ∷ cs) [] rest e h n q = record { at = w; comes = h; call = c; is = head_same (entry w c) e (run d vans (after w c) cs) rest q; tightened = tightened_same (d.answers w) }
   later w (c ∷ cs) (x ∷ between) rest e h n q =

@@ -3,7 +3,7 @@
 -- never falls.
 use Rattle.std.specs.Prelude.{◌≡◌, ℕ, ◌≤◌, Bool, true, false, List, ◌∷◌, ◌++◌, map, length, take, ℤ, pos, ◌+ℤ◌, ◌*ℤ◌, ◌≤ℤ◌, Some, Option}
 use Rattle.std.specs.Int.{int_min}
-use Rattle.std.specs.List.{AllByRecursion as All}
+use Rattle.std.specs.List.{AllByRecursion}
 use Rattle.tier.specs.Answers.{Answers}
 use Rattle.tier.specs.Routes.{Route, Admitted, reduced_cost}
 use Rattle.tier.specs.Plans.{Plan}
@@ -74,11 +74,11 @@ NotAbove (no_route k) (no_route k') = Unit {0}
 -- of the entries of a run that was opened at v
 pub record Promise {S : Type 0} (d : Meaning S) (vans : ℕ) (v : d.Value) (entries : List (Entry d.Value)) : Type 0 where
   -- every answer is right, by the pile as it stood at the call
-  pub right : All (λ e. Right (d.answers e.value) (d.ground_of e.value) vans e.answer) entries
+  pub right : AllByRecursion (λ e. Right (d.answers e.value) (d.ground_of e.value) vans e.answer) entries
   -- the stops, the tiers and the ground are those of the opening, so the plans are the same all along
-  pub kept : All (λ e. Kept d v e.value) entries
+  pub kept : AllByRecursion (λ e. Kept d v e.value) entries
   -- of any two entries with no taken set between them, the lowest of the later is not below that of the earlier
-  pub never_falls : (before between after : List (Entry d.Value)) (a b : Entry d.Value) → entries ≡ before ++ a ∷ (between ++ b ∷ after) → All (λ e. is_taken_set e.call e.answer ≡ false) between → NotAbove a.answer b.answer
+  pub never_falls : (before between after : List (Entry d.Value)) (a b : Entry d.Value) → entries ≡ before ++ a ∷ (between ++ b ∷ after) → AllByRecursion (λ e. is_taken_set e.call e.answer ≡ false) between → NotAbove a.answer b.answer
 
 -- whatever the number of vans and the calls
 abbrev pub Promises : {S : Type 0} → (d : Meaning S) → d.Value → Type 0

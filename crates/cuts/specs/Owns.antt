@@ -1,7 +1,7 @@
 -- What a layer of cuts adds keeps the laws of an own part. Assumes nothing.
 use Rattle.std.specs.Prelude.{◌≡◌, ℕ, ◌+◌, ◌^◌, ◌<◌, ◌≤◌, Bool, true, false, cond, not, ◌&&◌, List, [], ◌∷◌, length, Some, refl}
 use Rattle.std.proofs.Common.{sym, ap, subst, ◌∙◌, arith}
-use Rattle.std.specs.List.{AllByRecursion as All}
+use Rattle.std.specs.List.{AllByRecursion}
 use Rattle.stops.specs.Stops.{Stop, member}
 use Rattle.stops.proofs.Members.{none_in_empty}
 use Rattle.tier.specs.Routes.{Route, and_then}
@@ -132,7 +132,7 @@ module _ (cs : List Cut) where
       let s = sum_plus (λ k. pays (cut_at cs k) false r) (λ k. pays_over (cut_at cs k) rs) (length cs) in
       omega arith
 
-  plan_small : (n : ℕ) (rs : List (List ℕ)) → Good n cs → All (Route n) rs → ((j : ℕ) → Stop n j → visits j rs ≡ 1) → fares rs ≤ penalties_of cs
+  plan_small : (n : ℕ) (rs : List (List ℕ)) → Good n cs → AllByRecursion (Route n) rs → ((j : ℕ) → Stop n j → visits j rs ≡ 1) → fares rs ≤ penalties_of cs
   plan_small n rs g a once =
       let e = fares_sum rs in
       let l = sum_le (λ k. pays_over (cut_at cs k) rs) (λ k. (cut_at cs k).penalty) (length cs) (λ k l. plan_pays (cut_at cs k) n rs (g.sparse k n) a once) in

@@ -1,7 +1,7 @@
 -- One cut over a plan: it is charged at most once. Assumes nothing.
 use Rattle.std.specs.Prelude.{◌≡◌, ℕ, zero, suc, ◌+◌, ◌*◌, ◌≤◌, Bool, false, List, [], ◌∷◌, ℤ, pos, ◌+ℤ◌, refl}
 use Rattle.std.proofs.Common.{ap, arith, mul-add, mul-le-mul_left}
-use Rattle.std.specs.List.{AllByRecursion as All}
+use Rattle.std.specs.List.{AllByRecursion}
 use Rattle.std.proofs.lemmas.Int.{ints}
 use Rattle.stops.specs.Stops.{Stop, member, count_to}
 use Rattle.tier.specs.Routes.{Route}
@@ -53,7 +53,7 @@ module _ (p : ℕ → Bool) where
   count_sum (suc n) = ap (λ z. z +ℤ each (suc n)) (count_sum n)
 
   -- each stop once
-  counted : (n : ℕ) (rs : List (List ℕ)) → All (Route n) rs → ((j : ℕ) → Stop n j → visits j rs ≡ 1) → visits_over p rs ≡ count_to p n
+  counted : (n : ℕ) (rs : List (List ℕ)) → AllByRecursion (Route n) rs → ((j : ℕ) → Stop n j → visits j rs ≡ 1) → visits_over p rs ≡ count_to p n
   counted n rs a once =
       let s = sum_once n each rs a once in
       let v = visits_over_sum rs in
@@ -61,7 +61,7 @@ module _ (p : ℕ → Bool) where
       omega (arith, ints)
 
 -- a plan pays a cut at most once
-pub plan_pays : (c : Cut) (n : ℕ) (rs : List (List ℕ)) → count_to (member c.stops.word) n ≤ 3 → All (Route n) rs → ((j : ℕ) → Stop n j → visits j rs ≡ 1) → pays_over c rs ≤ c.penalty
+pub plan_pays : (c : Cut) (n : ℕ) (rs : List (List ℕ)) → count_to (member c.stops.word) n ≤ 3 → AllByRecursion (Route n) rs → ((j : ℕ) → Stop n j → visits j rs ≡ 1) → pays_over c rs ≤ c.penalty
 plan_pays c n rs few a once =
     let h = halves_over c rs in
     let v = counted (member c.stops.word) n rs a once in

@@ -1,7 +1,7 @@
 -- At every moment an admitted route is in view: followed stop by stop, some label is no worse than its van, treated
 -- up to where one waits. Assumes nothing.
 use Rattle.std.proofs.Common.{◌≡◌, ℕ, ◌<◌, Bool, ◌⊎◌, List, [], ◌∷◌, ◌++◌, ℤ, pos, ◌+ℤ◌, Some, sym, refl, ap, ◌∙◌, subst, inl, inr, ⊎_elim, arith}
-use Rattle.std.specs.List.{AllByRecursion as All}
+use Rattle.std.specs.List.{AllByRecursion}
 use Rattle.std.proofs.lemmas.List.{append-nil, append_assoc}
 use Rattle.std.proofs.lemmas.Int.{ints}
 use Rattle.stops.specs.Stops.{Stop}
@@ -26,7 +26,7 @@ module _ {S : Type 0} (m : Answers S) (laws : GapLaws m) (t : Table S) (held : H
     all : gone ++ left ≡ r
     at : Stop m.stops v.place
     stands : Standing m v.place v.state
-    stops : All (Stop m.stops) left
+    stops : AllByRecursion (Stop m.stops) left
     costs : replay_from m v.state v.place left ≡ Some y
     sum : z ≡ v.paid +ℤ y
 
@@ -38,7 +38,7 @@ module _ {S : Type 0} (m : Answers S) (laws : GapLaws m) (t : Table S) (held : H
     more : ℤ
     next : UnderWay r z (gone ++ j ∷ []) js (van state j (v.paid +ℤ charge)) more
 
-  further_on : (r : List ℕ) (z : ℤ) (gone js : List ℕ) (j : ℕ) (v : Van S) (y : ℤ) → van_after m gone ≡ Some v → gone ++ (j ∷ js) ≡ r → Standing m v.place v.state → All (Stop m.stops) (j ∷ js) → replay_from m v.state v.place (j ∷ js) ≡ Some y → z ≡ v.paid +ℤ y → Further r z gone js j v
+  further_on : (r : List ℕ) (z : ℤ) (gone js : List ℕ) (j : ℕ) (v : Van S) (y : ℤ) → van_after m gone ≡ Some v → gone ++ (j ∷ js) ≡ r → Standing m v.place v.state → AllByRecursion (Stop m.stops) (j ∷ js) → replay_from m v.state v.place (j ∷ js) ≡ Some y → z ≡ v.paid +ℤ y → Further r z gone js j v
   further_on r z gone js j v y went all st stops e sum =
       let b = and_then_some (m.reach v.state v.place j) (λ p. plus p.1 (replay_from m p.0 j js)) y e in
       let s = b.first.0 in

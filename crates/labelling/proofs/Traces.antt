@@ -1,6 +1,6 @@
 -- The chain of parents behind a label, and the way that it makes. Assumes nothing.
 use Rattle.std.proofs.Common.{◌≡◌, ℕ, zero, suc, ◌<◌, ◌≤◌, Bool, true, false, cond, eqb, List, [], ◌∷◌, ◌++◌, length, ℤ, pos, ◌+ℤ◌, Some, None, sym, refl, ap, ◌∙◌, subst, inl, inr, arith}
-use Rattle.std.specs.List.{AllByRecursion as All}
+use Rattle.std.specs.List.{AllByRecursion}
 use Rattle.std.proofs.lemmas.Bool.{eq-eqb, ne_eqb, cond-false}
 use Rattle.std.proofs.ByRecursion.{All-push}
 use Rattle.stops.specs.Stops.{Stop}
@@ -92,7 +92,7 @@ module _ {S : Type 0} (m : Answers S) where
 
   -- the label is the van after these stops
   pub record Leads (r : List ℕ) (l : Label S) : Type 0 where
-    pub stops : All (Stop m.stops) r
+    pub stops : AllByRecursion (Stop m.stops) r
     pub drives : van_after m r ≡ Some (van l.state l.stop l.cost)
     pub some : 0 < l.stop → 0 < length r
 

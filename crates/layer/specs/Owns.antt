@@ -1,6 +1,6 @@
 -- The own part of a layer: what it adds to a state, to charges and to gaps, whatever tier it stands on.
 use Rattle.std.specs.Prelude.{◌≡◌, ℕ, ◌+◌, ◌^◌, ◌≤◌, List, [], ◌∷◌, Some, None, Option}
-use Rattle.std.specs.List.{AllByRecursion as All}
+use Rattle.std.specs.List.{AllByRecursion}
 use Rattle.stops.specs.Stops.{Stop}
 use Rattle.tier.specs.Routes.{Route, and_then}
 use Rattle.tier.specs.Plans.{visits}
@@ -63,7 +63,7 @@ pub record OwnLaws {M : Type 0} (n : ℕ) (o : Own M) : Type 0 where
   pub behind_small : (a b : M) (g : ℕ) → o.behind a b ≡ Some g → g ≤ most_own
   pub penalties_small : o.penalties ≤ most_own
   -- routes that together visit each stop once are never barred, and pay no more than the penalties
-  pub plan_walks : (rs : List (List ℕ)) → All (Route n) rs → ((j : ℕ) → Stop n j → visits j rs ≡ 1) → WalksWithin o rs o.penalties
+  pub plan_walks : (rs : List (List ℕ)) → AllByRecursion (Route n) rs → ((j : ℕ) → Stop n j → visits j rs ≡ 1) → WalksWithin o rs o.penalties
 
 -- every route that `after` walks is walked before, for no greater own charges
 abbrev pub WalksNoCheaper : {M : Type 0} → Own M → Own M → Type 0

@@ -1,7 +1,7 @@
 -- The ng layer owes nothing of its tables, and keeps what its kind owes. Assumes nothing.
 use Rattle.std.specs.Prelude.{◌≡◌, ℕ, ◌+◌, ◌≤◌, Bool, true, false, cond, ◌&&◌, List, [], ◌∷◌, ℤ, Some, None, count_by, Option, ◌==◌, nat_eq, nat_le, unsigned_abs, refl}
 use Rattle.std.proofs.Common.{sym, ap, ◌∙◌, ⊎_elim, arith}
-use Rattle.std.specs.List.{AllByRecursion as All}
+use Rattle.std.specs.List.{AllByRecursion}
 use Rattle.stops.specs.Stops.{Stop, member, empty_set, within, all_stops}
 use Rattle.stops.specs.declared.StopSet.{StopSet}
 use Rattle.stops.proofs.Members.{not_member, no_member, none_in_empty, within_members, members_within, within_itself, within_through}
@@ -68,7 +68,7 @@ still_new near j memory js once new k h =
     ⊎_elim (λ l. let z = new k l in let c = count_cons k j js in omega arith) (λ same. ap (λ i. count_by (nat_eq i) js) same ∙ none) (learnt near j memory k h)
 
 -- a route that repeats no stop, and comes to none that is remembered, is never barred
-walk_free : (near : List StopSet) (n memory : ℕ) (r : List ℕ) → All (Stop n) r → ((k : ℕ) → Stop n k → count_by (nat_eq k) r ≤ 1) → New memory r → walk (ng_own near) memory r ≡ Some 0
+walk_free : (near : List StopSet) (n memory : ℕ) (r : List ℕ) → AllByRecursion (Stop n) r → ((k : ℕ) → Stop n k → count_by (nat_eq k) r ≤ 1) → New memory r → walk (ng_own near) memory r ≡ Some 0
 walk_free near n memory [] stops once new = refl
 walk_free near n memory (j ∷ js) stops once new =
     let here = count_here j js in
@@ -78,7 +78,7 @@ walk_free near n memory (j ∷ js) stops once new =
     let rest = walk_free near n next js stops.1 fewer (still_new (near_of near j) j memory js (once j stops.0) new) in
     ap (λ o. and_then o (λ p. add p.1 (walk (ng_own near) p.0 js))) (steps near j memory free) ∙ ap (add 0) rest
 
-walks_free : (near : List StopSet) (n : ℕ) (rs : List (List ℕ)) → All (Route n) rs → ((k : ℕ) → Stop n k → visits k rs ≤ 1) → walks (ng_own near) rs ≡ Some 0
+walks_free : (near : List StopSet) (n : ℕ) (rs : List (List ℕ)) → AllByRecursion (Route n) rs → ((k : ℕ) → Stop n k → visits k rs ≤ 1) → walks (ng_own near) rs ≡ Some 0
 walks_free near n [] routes once = refl
 walks_free near n (r ∷ rs) routes once =
     let first = walk_free near n empty_set r routes.0.1 (λ k s. let o = once k s in omega arith) (λ k h. absurd (no_member empty_set k (none_in_empty k) h)) in

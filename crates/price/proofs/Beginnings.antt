@@ -1,6 +1,6 @@
 -- The store at first: the root waits at the first place, and the others are blank. Assumes nothing.
 use Rattle.std.proofs.Common.{◌≡◌, ℕ, zero, suc, ◌<◌, List, length, drop, set, replicate, None, sym, refl, ap, ◌∙◌, subst, arith}
-use Rattle.std.specs.List.{AllByRecursion as All}
+use Rattle.std.specs.List.{AllByRecursion}
 use Rattle.std.proofs.lemmas.List.{length-set, length-replicate, drop-set-lt}
 use Rattle.tier.specs.Answers.{Answers}
 use Rattle.labelling.specs.Labelling.{begin}
@@ -23,11 +23,11 @@ begun {S} m places cells some e =
     let b = length-set all 0 first in
     let n : length cells ≡ places = ap length e ∙ b ∙ a in
     record {
-      unused = record { within = omega arith; rest = subst (λ cs. All (λ c. c ≡ blank m.start) (drop 1 cs)) (sym e) (subst (All (λ c. c ≡ blank m.start)) (sym (drop-set-lt 1 all 0 first (omega arith))) (blanks 1 places)) };
+      unused = record { within = omega arith; rest = subst (λ cs. AllByRecursion (λ c. c ≡ blank m.start) (drop 1 cs)) (sym e) (subst (AllByRecursion (λ c. c ≡ blank m.start)) (sym (drop-set-lt 1 all 0 first (omega arith))) (blanks 1 places)) };
       beside = subst (λ cs. Beside (writing m.start) m (length cs) None (work cs at_first) (begin m)) (sym e) (subst (λ n. Beside (writing m.start) m n None (work (set all 0 first) at_first) (begin m)) (sym (b ∙ a)) (begins_alike (writing m.start) m places some));
     }
   where
-    blanks : (k n : ℕ) → All (λ c. c ≡ blank m.start) (drop k (replicate n (blank m.start)))
+    blanks : (k n : ℕ) → AllByRecursion (λ c. c ≡ blank m.start) (drop k (replicate n (blank m.start)))
     blanks zero zero = tt
     blanks zero (suc n) = (refl, blanks zero n)
     blanks (suc k) zero = tt

@@ -1,6 +1,6 @@
 -- The ways out of an offer. Assumes nothing.
 use Rattle.std.proofs.Common.{◌≡◌, ℕ, ◌+◌, ◌-◌, ◌<◌, ◌≤◌, false, cond, List, [], ◌∷◌, length, drop, set, Some, None, count_by, Option, sym, refl, ap, ◌∙◌, subst, arith}
-use Rattle.std.specs.List.{AllByRecursion as All}
+use Rattle.std.specs.List.{AllByRecursion}
 use Rattle.std.proofs.lemmas.List.{length-set, drop-set-lt, drop-drop}
 use Rattle.std.proofs.ByRecursion.{All-drop}
 use Rattle.tier.specs.Answers.{Answers}
@@ -19,13 +19,13 @@ module _ {S : Type 0} (start : S) (used : ℕ) (cells : List (Cell S)) (u : Unus
   unused_put place c h =
       let z = length-set cells place c in
       let w = u.within in
-      record { within = omega arith; rest = subst (All (λ c. c ≡ blank start)) (sym (drop-set-lt used cells place c h)) u.rest }
+      record { within = omega arith; rest = subst (AllByRecursion (λ c. c ≡ blank start)) (sym (drop-set-lt used cells place c h)) u.rest }
 
   -- more places count as used
   pub unused_wider : (more : ℕ) → used ≤ more → more ≤ length cells → Unused start more cells
   unused_wider more h k = record {
     within = k;
-    rest = subst (All (λ c. c ≡ blank start)) (drop-drop (more - used) used cells ∙ ap (λ i. drop i cells) (omega arith)) (All-drop (λ (c : Cell S). c ≡ blank start) (more - used) (drop used cells) u.rest);
+    rest = subst (AllByRecursion (λ c. c ≡ blank start)) (drop-drop (more - used) used cells ∙ ap (λ i. drop i cells) (omega arith)) (All-drop (λ (c : Cell S). c ≡ blank start) (more - used) (drop used cells) u.rest);
   }
 
 -- THE WAYS OUT

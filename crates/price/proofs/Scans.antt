@@ -1,6 +1,6 @@
 -- One step of each scan of a store. Assumes nothing.
 use Rattle.std.proofs.Common.{◌≡◌, ℕ, suc, ◌+◌, ◌-◌, ◌<◌, ◌≤◌, Bool, true, false, cond, ◌||◌, List, [], ◌∷◌, length, get_or, drop, Some, None, sym, refl, ap, ◌∙◌, arith}
-use Rattle.std.specs.List.{AllByRecursion as All}
+use Rattle.std.specs.List.{AllByRecursion}
 use Rattle.std.proofs.lemmas.List.{at_drop_more, at_drop_all, length-drop}
 use Rattle.labelling.specs.Labelling.{any}
 use Rattle.price.specs.declared.label.Label.{Label as Cell}
@@ -19,7 +19,7 @@ module _ {X : Type 0} (p : X → Bool) (xs : List X) (i : ℕ) where
   pub any_yes : (x : X) → i < length xs → x ≡ get_or xs i x → true ≡ p x → true ≡ any p (drop i xs)
   any_yes x h e b = sym (any_more x h e ∙ ap (λ b. b || any p (drop (i + 1) xs)) (sym b))
 
-pub any_none : {X : Type 0} (p : X → Bool) (x : X) → p x ≡ false → (xs : List X) → All (λ y. y ≡ x) xs → false ≡ any p xs
+pub any_none : {X : Type 0} (p : X → Bool) (x : X) → p x ≡ false → (xs : List X) → AllByRecursion (λ y. y ≡ x) xs → false ≡ any p xs
 any_none p x e [] h = refl
 any_none p x e (y ∷ ys) h = any_none p x e ys h.1 ∙ sym (ap (λ b. b || any p ys) (ap p h.0 ∙ e))
 
@@ -39,7 +39,7 @@ module _ {S : Type 0} (xs : List (Cell S)) (i : ℕ) where
 pub free_rest : {S : Type 0} (start : S) (used : ℕ) (xs : List (Cell S)) → Unused start used xs → used < length xs → Some used ≡ first_free used (drop used xs)
 free_rest {S} start used xs u h = by (drop used xs) u.rest (length-drop used xs ∙ omega arith)
   where
-    by : (ys : List (Cell S)) → All (λ c. c ≡ blank start) ys → length ys ≡ suc (length xs - used - 1) → Some used ≡ first_free used ys
+    by : (ys : List (Cell S)) → AllByRecursion (λ c. c ≡ blank start) ys → length ys ≡ suc (length xs - used - 1) → Some used ≡ first_free used ys
     by [] a e = absurd (omega arith)
     by (y ∷ ys) a e = sym (ap (λ (y : Cell S). cond (is_live y.status) (first_free (used + 1) ys) (Some used)) a.0)
 

@@ -1,6 +1,6 @@
 -- Which places of a store can hold labels.
 use Rattle.std.specs.Prelude.{◌≡◌, ℕ, ◌+◌, ◌≤◌, Bool, cond, ◌&&◌, List, [], ◌∷◌, length, drop, Some, None, Option}
-use Rattle.std.specs.List.{AllByRecursion as All}
+use Rattle.std.specs.List.{AllByRecursion}
 use Rattle.tier.specs.Answers.{Answers}
 use Rattle.labelling.specs.Labelling.{covers}
 use Rattle.price.specs.declared.label.Label.{Label as Cell}
@@ -9,7 +9,7 @@ use Rattle.price.specs.Labels.{blank, view, is_live}
 -- the places from `used` on are blank
 pub record Unused {S : Type 0} (start : S) (used : ℕ) (cells : List (Cell S)) : Type 0 where
   pub within : used ≤ length cells
-  pub rest : All (λ c. c ≡ blank start) (drop used cells)
+  pub rest : AllByRecursion (λ c. c ≡ blank start) (drop used cells)
 
 -- k is live, and covers l
 abbrev pub blocks : {S : Type 0} → Answers S → Cell S → Cell S → Bool

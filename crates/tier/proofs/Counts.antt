@@ -1,6 +1,6 @@
 -- A sum over the routes of a plan is a sum over the stops. Assumes nothing.
 use Rattle.std.proofs.Common.{◌≡◌, ℕ, zero, suc, ◌+◌, ◌<◌, ◌≤◌, cond, eqb, List, [], ◌∷◌, ℤ, pos, ◌+ℤ◌, count_by, refl, ap, ◌∙◌, ⊎_elim, arith}
-use Rattle.std.specs.List.{AllByRecursion as All}
+use Rattle.std.specs.List.{AllByRecursion}
 use Rattle.std.proofs.lemmas.List.Sums.{sum_by-cons}
 use Rattle.std.proofs.lemmas.Bool.{eq-eqb, ne_eqb, cases_eq}
 use Rattle.std.proofs.lemmas.Int.{ints}
@@ -60,7 +60,7 @@ more_at f c d k (suc n) a b h = ⊎_elim last (before (λ l. more_at f c d k n a
         omega (arith, ints)
 
 -- the stops of a list, on top of others
-add_list : (f : ℕ → ℤ) (n : ℕ) (r : List ℕ) (v : ℕ → ℕ) → All (λ j. (0 < j) × (j ≤ n)) r → sum_to (λ j. times (count_by (eqb j) r + v j) (f j)) n ≡ sum_over f r +ℤ sum_to (λ j. times (v j) (f j)) n
+add_list : (f : ℕ → ℤ) (n : ℕ) (r : List ℕ) (v : ℕ → ℕ) → AllByRecursion (λ j. (0 < j) × (j ≤ n)) r → sum_to (λ j. times (count_by (eqb j) r + v j) (f j)) n ≡ sum_over f r +ℤ sum_to (λ j. times (v j) (f j)) n
 add_list f n [] v a =
     let e = sum_to_same (λ j. times (count_by (eqb j) [] + v j) (f j)) (λ j. times (v j) (f j)) n (λ j p q. ap (λ x. times x (f j)) (omega arith)) in
     omega (arith, ints)
@@ -70,7 +70,7 @@ add_list f n (k ∷ r) v a =
     omega (arith, ints)
 
 -- over routes: each stop as often as it is visited
-pub sum_visits : (f : ℕ → ℤ) (n : ℕ) (rs : List (List ℕ)) → All (All (λ j. (0 < j) × (j ≤ n))) rs → sum_routes (sum_over f) rs ≡ sum_to (λ j. times (visits j rs) (f j)) n
+pub sum_visits : (f : ℕ → ℤ) (n : ℕ) (rs : List (List ℕ)) → AllByRecursion (AllByRecursion (λ j. (0 < j) × (j ≤ n))) rs → sum_routes (sum_over f) rs ≡ sum_to (λ j. times (visits j rs) (f j)) n
 sum_visits f n [] a = none n
   where
     none : (n : ℕ) → pos 0 ≡ sum_to (λ j. times 0 (f j)) n
@@ -81,11 +81,11 @@ sum_visits f n (r ∷ rs) a =
     let h = sum_visits f n rs a.1 in
     omega (arith, ints)
 
-stops_of : (n : ℕ) (rs : List (List ℕ)) → All (Route n) rs → All (All (Stop n)) rs
+stops_of : (n : ℕ) (rs : List (List ℕ)) → AllByRecursion (Route n) rs → AllByRecursion (AllByRecursion (Stop n)) rs
 stops_of n [] a = tt
 stops_of n (r ∷ rs) a = (a.0.1, stops_of n rs a.1)
 
 -- exactly once each
-pub sum_once : (n : ℕ) (f : ℕ → ℤ) (rs : List (List ℕ)) → All (Route n) rs → ((j : ℕ) → Stop n j → visits j rs ≡ 1) → sum_routes (sum_over f) rs ≡ sum_to f n
+pub sum_once : (n : ℕ) (f : ℕ → ℤ) (rs : List (List ℕ)) → AllByRecursion (Route n) rs → ((j : ℕ) → Stop n j → visits j rs ≡ 1) → sum_routes (sum_over f) rs ≡ sum_to f n
 sum_once n f rs a once =
     sum_visits f n rs (stops_of n rs a) ∙ sum_to_same (λ j. times (visits j rs) (f j)) f n (λ j p q. ap (λ x. times x (f j)) (once j (p, q)) ∙ omega (arith, ints))

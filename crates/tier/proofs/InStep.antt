@@ -1,7 +1,7 @@
 -- Two tiers replayed in step: what the one admits the other admits too, and costs more by a weight.
 -- Assumes nothing.
 use Rattle.std.proofs.Common.{◌≡◌, ℕ, List, [], ◌∷◌, ℤ, ◌+ℤ◌, Some, Option, ap, ◌∙◌, arith}
-use Rattle.std.specs.List.{AllByRecursion as All}
+use Rattle.std.specs.List.{AllByRecursion}
 use Rattle.std.proofs.lemmas.Int.{ints}
 use Rattle.tier.specs.Answers.{Answers}
 use Rattle.tier.specs.Routes.{and_then, plus, replay_from}
@@ -39,7 +39,7 @@ module _ {S T : Type 0} (a : Answers S) (b : Answers T) (R : List ℕ → ℕ �
       ap (λ r. and_then r (λ q. plus q.1 (replay_from b q.0 j js))) v.reaches ∙ ap (plus v.charge) l ∙ ap Some (omega (arith, ints))
 
 -- a cost that differs by a weight on each route differs by their sum
-pub total_in_step : (f g : List ℕ → Option ℤ) (w : List ℕ → ℤ) (rs : List (List ℕ)) (c : ℤ) → All (λ r. (x : ℤ) → f r ≡ Some x → g r ≡ Some (x +ℤ w r)) rs → total f rs ≡ Some c → total g rs ≡ Some (c +ℤ sum_routes w rs)
+pub total_in_step : (f g : List ℕ → Option ℤ) (w : List ℕ → ℤ) (rs : List (List ℕ)) (c : ℤ) → AllByRecursion (λ r. (x : ℤ) → f r ≡ Some x → g r ≡ Some (x +ℤ w r)) rs → total f rs ≡ Some c → total g rs ≡ Some (c +ℤ sum_routes w rs)
 total_in_step f g w [] c a e = ap Some (let s = some_same e in omega (arith, ints))
 total_in_step f g w (r ∷ rs) c a e =
     let o = and_then_some (f r) (λ x. plus x (total f rs)) c e in
@@ -49,6 +49,6 @@ total_in_step f g w (r ∷ rs) c a e =
     let z = q.sum in
     ap (λ r. and_then r (λ x. plus x (total g rs))) (a.0 x o.is) ∙ ap (plus (x +ℤ w r)) l ∙ ap Some (omega (arith, ints))
 
-pub all_map : {X : Type 0} (P Q : X → Type 0) (xs : List X) → ((x : X) → P x → Q x) → All P xs → All Q xs
+pub all_map : {X : Type 0} (P Q : X → Type 0) (xs : List X) → ((x : X) → P x → Q x) → AllByRecursion P xs → AllByRecursion Q xs
 all_map P Q [] f a = tt
 all_map P Q (x ∷ xs) f a = (f x a.0, all_map P Q xs f a.1)

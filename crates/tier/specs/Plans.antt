@@ -1,6 +1,6 @@
 -- Plans: routes that together visit every stop exactly once.
 use Rattle.std.specs.Prelude.{◌≡◌, ℕ, ◌+◌, ◌≤◌, List, [], ◌∷◌, length, ℤ, pos, Some, count_by, Option, nat_eq}
-use Rattle.std.specs.List.{AllByRecursion as All}
+use Rattle.std.specs.List.{AllByRecursion}
 use Rattle.stops.specs.Stops.{Stop}
 use Rattle.tier.specs.Routes.{Route, and_then, plus}
 
@@ -18,7 +18,7 @@ total f (r ∷ rs) = and_then (f r) (λ x. plus x (total f rs))
 -- exactly once. The ground gives the leg costs of a route that can be driven, the way home included; `cost` is
 -- what the routes cost together.
 pub record Plan (n : ℕ) (ground_of : List ℕ → Option ℤ) (vans : ℕ) (rs : List (List ℕ)) (cost : ℤ) : Type 0 where
-  pub routes : All (Route n) rs
+  pub routes : AllByRecursion (Route n) rs
   pub few : length rs ≤ vans
   pub once : (j : ℕ) → Stop n j → visits j rs ≡ 1
   pub costs : total ground_of rs ≡ Some cost

@@ -1,12 +1,12 @@
 -- Routes, their replay and their reduced cost.
 use Rattle.std.specs.Prelude.{◌≡◌, ℕ, ◌<◌, List, [], ◌∷◌, length, ℤ, ◌+ℤ◌, Some, None, Option}
-use Rattle.std.specs.List.{AllByRecursion as All}
+use Rattle.std.specs.List.{AllByRecursion}
 use Rattle.stops.specs.Stops.{Stop}
 use Rattle.tier.specs.Answers.{Answers}
 
 -- a list of one or more of the stops 1 to n
 abbrev pub Route : ℕ → List ℕ → Type 0
-Route n r = (0 < length r) × All (Stop n) r
+Route n r = (0 < length r) × AllByRecursion (Stop n) r
 
 -- go on with what is there
 abbrev pub and_then : {A B : Type 0} → Option A → (A → Option B) → Option B
