@@ -24,6 +24,7 @@ OTHERS = {
     "too-far-to-fill": "is_too_far_to_fill",
     "Covers-of": "covers_of",
     "Falls-of": "falls_of",
+    "get_d_set_at": "get_or_set_at",  # port.py read the library's old name letter by letter
     "ground": "ground_of",  # a word of the proof language, which definitions may not have
 }
 

@@ -3,7 +3,7 @@ use Rattle.std.proofs.Common.{◌≡◌, ℕ, ◌<◌, ◌≤◌, Bool, true, fa
 use Rattle.std.proofs.lemmas.Bool.{cases_eq, cases_lt, leb-true, le-leb, eqb-true, ne_eqb, true≢false, and_parts}
 use Rattle.std.proofs.lemmas.Bool.Decides.{nat_tests}
 use Rattle.stops.specs.Stops.{Stop, most_stops, most_places}
-use Rattle.stops.proofs.Lists.{each_copy, get_d_set_at}
+use Rattle.stops.proofs.Lists.{each_copy, get_or_set_at}
 use Rattle.book.specs.Limits.{most_made, last_minute, most_minutes, most_cost}
 use Rattle.book.specs.Ranges.{between, fleet_fits, fleet_ok, visit_fits, visit_ok, leg_fits, leg_ok, blank_visit, blank_leg, apart, leg_index, VisitsOk, LegsOk}
 use Rattle.book.specs.Books.{Contents, can_put_visit, can_put_leg}
@@ -63,7 +63,7 @@ legs_blank n stops i j = each_copy (λ l. leg_ok stops i j l ≡ true) blank_leg
 pub visits_put : (stops : ℕ) (visits : List Visit) (j : ℕ) (v : Visit) → Stop stops j → visit_fits v ≡ true → VisitsOk stops visits → VisitsOk stops (set visits j v)
 visits_put stops visits j v s e h k =
     ⊎_elim
-    (λ q. subst (λ n. visit_ok stops n (get_or (set visits j v) n blank_visit) ≡ true) (sym q) (get_d_set_at (λ x. visit_ok stops j x ≡ true) visits j v blank_visit here (h j)))
+    (λ q. subst (λ n. visit_ok stops n (get_or (set visits j v) n blank_visit) ≡ true) (sym q) (get_or_set_at (λ x. visit_ok stops j x ≡ true) visits j v blank_visit here (h j)))
     (λ n. subst (λ x. visit_ok stops k x ≡ true) (sym (get_or-set_other visits j k v blank_visit n)) (h k))
     (cases_eq k j)
   where
@@ -92,7 +92,7 @@ legs_put stops legs i j l few a e h f t =
         let columns : t ≡ j = omega arith in
         subst (λ n. leg_ok stops n t (get_or (set legs (leg_index i j) l) (leg_index n t) blank_leg) ≡ true) (sym rows)
         (subst (λ n. leg_ok stops i n (get_or (set legs (leg_index i j) l) (leg_index i n) blank_leg) ≡ true) (sym columns)
-        (get_d_set_at (λ x. leg_ok stops i j x ≡ true) legs (leg_index i j) l blank_leg here (h i j)))
+        (get_or_set_at (λ x. leg_ok stops i j x ≡ true) legs (leg_index i j) l blank_leg here (h i j)))
 
 -- WHICH VISITS AND LEGS CAN BE PUT
 

@@ -17,6 +17,7 @@ pub struct Book {
     ghost fleets: { fleet_ok stops fleet ≡ true },
     ghost visiting: { VisitsOk stops visits },
     ghost driving: { LegsOk stops legs },
+    // a law does not know the length of an array
     ghost places: { length visits ≡ most_places },
     ghost pairs: { length legs ≡ most_places * most_places },
 }

@@ -3,7 +3,7 @@ use Rattle.std.proofs.Common.{◌≡◌, ℕ, ◌+◌, ◌%◌, ◌^◌, ◌<◌
 use Rattle.std.proofs.lemmas.List.{get_or-set_same, get_or-set_other}
 use Rattle.std.proofs.lemmas.Bool.{and_parts, eqb-true, eq-eqb, lt-ltb, cases_lt, cases_eq}
 use Rattle.stops.specs.Stops.{most_member, member, all_stops, count_to}
-use Rattle.stops.proofs.Lists.{get_d_set_at}
+use Rattle.stops.proofs.Lists.{get_or_set_at}
 use Rattle.stops.proofs.Members.{none_past, not_member, all_stops_member, count_past}
 use Rattle.cuts.specs.declared.cut.Cut.{Cut}
 use Rattle.cuts.specs.Cuts.{blank_cut, cut_at}
@@ -20,7 +20,7 @@ three_none cs k h = absurd (omega arith)
 pub three_put : (count : ℕ) (cs : List Cut) (i : ℕ) (c : Cut) → c.stops.word ≡ (cut_at cs i).stops.word → ThreeStops count cs → ThreeStops count (set cs i c)
 three_put count cs i c e h k l =
     ⊎_elim
-    (λ q. let at : Three (cut_at cs k) = h k l in subst (λ n. Three (cut_at (set cs n c) k)) q (get_d_set_at Three cs k c blank_cut (subst (λ w. three_stops most_member w ≡ true) (sym (e ∙ ap (λ n. (cut_at cs n).stops.word) (sym q))) at) at))
+    (λ q. let at : Three (cut_at cs k) = h k l in subst (λ n. Three (cut_at (set cs n c) k)) q (get_or_set_at Three cs k c blank_cut (subst (λ w. three_stops most_member w ≡ true) (sym (e ∙ ap (λ n. (cut_at cs n).stops.word) (sym q))) at) at))
     (λ n. subst Three (sym (get_or-set_other cs i k c blank_cut n)) (h k l))
     (cases_eq k i)
 

@@ -5,7 +5,7 @@ use Rattle.std.proofs.lemmas.List.{get_or-set_other}
 use Rattle.std.proofs.lemmas.Bool.{cases_eq}
 use Rattle.stops.specs.Stops.{member, empty_set, just, common, joined}
 use Rattle.stops.specs.declared.StopSet.{StopSet}
-use Rattle.stops.proofs.Lists.{get_d_set_at}
+use Rattle.stops.proofs.Lists.{get_or_set_at}
 use Rattle.stops.proofs.Members.{not_member, no_member, common_left, common_right, in_common, in_left, in_right, of_either, only_just}
 use Rattle.ng.specs.Ng.{set_of, near_of, recall, wider_at}
 
@@ -42,4 +42,4 @@ wider_here near index stops j =
     (cases_eq j index)
   where
     at : Part (near_of near index) (near_of (wider_at near index stops) index)
-    at = get_d_set_at (λ s. Part (near_of near index) s.word) near index (set_of (joined (near_of near index) stops)) (set_of empty_set) (λ k h. in_left (near_of near index) stops k h) (λ k h. h)
+    at = get_or_set_at (λ s. Part (near_of near index) s.word) near index (set_of (joined (near_of near index) stops)) (set_of empty_set) (λ k h. in_left (near_of near index) stops k h) (λ k h. h)

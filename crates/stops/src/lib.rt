@@ -3,7 +3,7 @@
 //! Stops are numbered from 1 to n, and place 0 is the depot.
 #![tactic(auto)]
 
-ghost use Rattle.std.specs.Prelude.{◌≡◌, ◌+◌, ◌^◌, ltb, if◌then◌else◌, nat_lt};
+ghost use Rattle.std.specs.Prelude.{◌≡◌, ◌+◌, ◌^◌, if◌then◌else◌, nat_lt};
 ghost use Rattle.stops.specs.Stops.{member, just, common, joined, within as «within_set», all_stops, count_to, empty_set};
 
 /// The most stops there can be: n is at most this.
@@ -41,7 +41,7 @@ impl StopSet {
 
     /// The stop alone; the empty set for a number past 63.
     pub fn just(stop: usize) -> StopSet
-        ensures { result.word ≡ (if ltb stop 64 then just stop else empty_set) }
+        ensures { result.word ≡ (if nat_lt stop 64 then just stop else empty_set) }
     {
         if stop < 64 {
             StopSet { word: 1 << stop }
