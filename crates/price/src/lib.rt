@@ -15,7 +15,8 @@ mod runs;
 mod turns;
 
 pub use answer::{Lowest, Priced};
+pub use calls::{MOST_LABELS, MOST_VANS, ROW_LENGTH};
 pub use label::{Label, Parent, Status};
-pub use pricing::{MOST_LABELS, MOST_VANS, ROW_LENGTH, price, refuse_early};
+pub use pricing::{price, refuse_early};
 pub use progress::Counts;
 pub use refusal::PriceRefusal;

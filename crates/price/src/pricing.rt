@@ -16,16 +16,8 @@ use crate::progress::Progress;
 use crate::refusal::PriceRefusal;
 use crate::rows::{clear, write_route, zero_from};
 use crate::runs::{place_root, treat_all};
+use calls::{MOST_LABELS, MOST_VANS, ROW_LENGTH};
 use tier::{MOST_TIERS, Tier};
-
-/// A price takes this many vans at most.
-pub const MOST_VANS: usize = 60;
-
-/// A price takes this many places for labels at most.
-pub const MOST_LABELS: usize = 262144;
-
-/// The row for a route must hold this many numbers.
-pub const ROW_LENGTH: usize = 1440;
 
 /// The refusals of a price before any label is made, by the pile, the vans, the places of the store and
 /// the numbers of the row.
