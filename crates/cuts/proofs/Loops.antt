@@ -1,33 +1,35 @@
--- A sum over the cuts of a table, step by step. Assumes nothing.
-use Rattle.std.proofs.Common.{◌≡◌, ℕ, suc, ◌+◌, ◌^◌, ◌<◌, ◌≤◌, Bool, true, false, cond, not, ◌&&◌, ap, ◌∙◌, arith}
+-- Sums over the cuts of a table, and its bits step by step. Assumes nothing.
+use Rattle.std.proofs.Common.{◌≡◌, ℕ, suc, ◌+◌, Bool, cond, List, [], ◌∷◌, length, refl, ap, ◌∙◌, arith}
+use Rattle.std.specs.List.{sum_by, enumerate_from}
+use Rattle.std.proofs.lemmas.List.Sums.{sum_by-cons}
 use Rattle.cuts.specs.declared.bits.Bits.{Bits}
-use Rattle.cuts.specs.declared.table.CutTable.{CutTable}
-use Rattle.cuts.specs.Bits.{stands, with_bit, bits_where, sum_below}
-use Rattle.cuts.specs.Cuts.{is_charged, fee, lag, cut_at}
-use Rattle.cuts.specs.Contents.{cuts_of}
-use Rattle.cuts.specs.Sums.{sum_more, sum_most}
-use Rattle.cuts.specs.Arrays.{table_good}
+use Rattle.cuts.specs.declared.cut.Cut.{Cut}
+use Rattle.cuts.specs.Bits.{with_bit, bits_where, sum_below}
+use Rattle.cuts.specs.Cuts.{cut_at, penalties_of}
+use Rattle.cuts.specs.Sums.{sum_first, sum_same}
 
-some_penalty : (b : Bool) (p : ℕ) → p ≤ 2 ^ 30 → cond b p 0 ≤ 2 ^ 30
-some_penalty true p l = l
-some_penalty false p l = omega arith
+summed_from : (f : ℕ → Cut → ℕ) (n : ℕ) (cs : List Cut) → sum_by (λ (p : ℕ × Cut). f p.0 p.1) (enumerate_from n cs) ≡ sum_below (λ k. f (n + k) (cut_at cs k)) (length cs)
+summed_from f n [] = refl
+summed_from f n (x ∷ cs) =
+    let h = summed_from f (n + 1) cs in
+    let first = sum_by-cons (λ (p : ℕ × Cut). f p.0 p.1) (n, x) (enumerate_from (n + 1) cs) in
+    let split = sum_first (λ k. f (n + k) (cut_at (x ∷ cs) k)) (length cs) in
+    let here = ap (λ k. f k x) (let e : n + 0 ≡ n = omega arith in e) in
+    let rest = sum_same (λ k. f (n + suc k) (cut_at cs k)) (λ k. f (n + 1 + k) (cut_at cs k)) (length cs) (λ k l. ap (λ i. f i (cut_at cs k)) (omega arith)) in
+    omega arith
 
-module _ (t : CutTable) where
-  pub penalty_small : (k : ℕ) → (cut_at (cuts_of t) k).penalty ≤ 2 ^ 30
-  penalty_small k = (table_good 0 t).cheap k
+-- of the cuts with their numbers
+pub numbered_sum : (f : ℕ → Cut → ℕ) (cs : List Cut) → sum_by (λ (p : ℕ × Cut). f p.0 p.1) (enumerate_from 0 cs) ≡ sum_below (λ k. f k (cut_at cs k)) (length cs)
+numbered_sum f cs =
+    summed_from f 0 cs ∙ sum_same (λ k. f (0 + k) (cut_at cs k)) (λ k. f k (cut_at cs k)) (length cs) (λ k l. ap (λ i. f i (cut_at cs k)) (omega arith))
 
-  pub fee_small : (j : ℕ) (bits : Bits) (k : ℕ) → fee (cut_at (cuts_of t) k) j (stands bits k) ≤ 2 ^ 30
-  fee_small j bits k = some_penalty (is_charged (cut_at (cuts_of t) k) j (stands bits k)) _ (penalty_small k)
-
-  pub lag_small : (a b : Bits) (k : ℕ) → lag (cut_at (cuts_of t) k) (stands a k) (stands b k) ≤ 2 ^ 30
-  lag_small a b k = some_penalty (stands a k && not (stands b k)) _ (penalty_small k)
-
--- the sum so far, with what is added
-pub sum_fits : (f : ℕ → ℕ) (k sum x : ℕ) → ((k : ℕ) → f k ≤ 2 ^ 30) → k < 32 → sum ≡ sum_below f k → x ≡ f k → sum + x ≤ 2 ^ 36
-sum_fits f k sum x small l e g = let s = sum_most f (2 ^ 30) k small in let y = small k in omega arith
-
-pub sum_step : (f : ℕ → ℕ) (k sum x : ℕ) → sum ≡ sum_below f k → x ≡ f k → sum + x ≡ sum_below f (k + 1)
-sum_step f k sum x e g = let s = sum_more f k in omega arith
+pub penalties_by : (cs : List Cut) → sum_by (λ (c : Cut). c.penalty) cs ≡ penalties_of cs
+penalties_by [] = refl
+penalties_by (x ∷ cs) =
+    let h = penalties_by cs in
+    let first = sum_by-cons (λ (c : Cut). c.penalty) x cs in
+    let split = sum_first (λ k. (cut_at (x ∷ cs) k).penalty) (length cs) in
+    omega arith
 
 pub bits_step : (p : ℕ → Bool) (k : ℕ) (bits : Bits) (b : Bool) → bits ≡ bits_where p k → b ≡ p k → cond b (with_bit bits k) bits ≡ bits_where p (k + 1)
 bits_step p k bits b e g =

@@ -1,6 +1,6 @@
 -- Every cut of a table has three different stops, whatever is done to it. Assumes nothing.
-use Rattle.std.proofs.Common.{◌≡◌, ℕ, ◌+◌, ◌%◌, ◌^◌, ◌<◌, true, ◌&&◌, eqb, ltb, List, length, set, sym, ap, ◌∙◌, subst, ⊎_elim, arith}
-use Rattle.std.proofs.lemmas.List.{get_or-set_same, get_or-set_other}
+use Rattle.std.proofs.Common.{◌≡◌, ℕ, ◌+◌, ◌%◌, ◌^◌, ◌<◌, true, ◌&&◌, eqb, ltb, List, [], ◌∷◌, ◌++◌, length, set, sym, ap, ◌∙◌, subst, ⊎_elim, arith}
+use Rattle.std.proofs.lemmas.List.{length-set, length_push, get_or-set_other, get_or_append_left, get_or_push}
 use Rattle.std.proofs.lemmas.Bool.{and_parts, eqb-true, eq-eqb, lt-ltb, cases_lt, cases_eq}
 use Rattle.stops.specs.Stops.{most_member, member, all_stops, count_to}
 use Rattle.stops.proofs.Lists.{get_or_set_at}
@@ -17,20 +17,21 @@ pub three_none : (cs : List Cut) → ThreeStops 0 cs
 three_none cs k h = absurd (omega arith)
 
 -- a cut in the place of one with the same stops
-pub three_put : (count : ℕ) (cs : List Cut) (i : ℕ) (c : Cut) → c.stops.word ≡ (cut_at cs i).stops.word → ThreeStops count cs → ThreeStops count (set cs i c)
-three_put count cs i c e h k l =
+pub three_put : (cs : List Cut) (i : ℕ) (c : Cut) → c.stops.word ≡ (cut_at cs i).stops.word → ThreeStops (length cs) cs → ThreeStops (length (set cs i c)) (set cs i c)
+three_put cs i c e h k l =
+    let inside : k < length cs = let same = length-set cs i c in omega arith in
     ⊎_elim
-    (λ q. let at : Three (cut_at cs k) = h k l in subst (λ n. Three (cut_at (set cs n c) k)) q (get_or_set_at Three cs k c blank_cut (subst (λ w. three_stops most_member w ≡ true) (sym (e ∙ ap (λ n. (cut_at cs n).stops.word) (sym q))) at) at))
-    (λ n. subst Three (sym (get_or-set_other cs i k c blank_cut n)) (h k l))
+    (λ q. let at : Three (cut_at cs k) = h k inside in subst (λ n. Three (cut_at (set cs n c) k)) q (get_or_set_at Three cs k c blank_cut (subst (λ w. three_stops most_member w ≡ true) (sym (e ∙ ap (λ n. (cut_at cs n).stops.word) (sym q))) at) at))
+    (λ n. subst Three (sym (get_or-set_other cs i k c blank_cut n)) (h k inside))
     (cases_eq k i)
 
 -- a new cut after the others
-pub three_add : (count : ℕ) (cs : List Cut) (c : Cut) → count < length cs → Three c → ThreeStops count cs → ThreeStops (count + 1) (set cs count c)
-three_add count cs c room t h k l =
+pub three_add : (cs : List Cut) (c : Cut) → Three c → ThreeStops (length cs) cs → ThreeStops (length (cs ++ c ∷ [])) (cs ++ c ∷ [])
+three_add cs c t h k l =
     ⊎_elim
-    (λ q. subst (λ n. Three (cut_at (set cs count c) n)) (sym q) (subst Three (sym (get_or-set_same cs count c blank_cut room)) t))
-    (λ n. subst Three (sym (get_or-set_other cs count k c blank_cut n)) (h k (omega arith)))
-    (cases_eq k count)
+    (λ inside. subst Three (sym (get_or_append_left cs (c ∷ []) blank_cut k inside)) (h k inside))
+    (λ last. subst Three (sym (get_or_push cs c blank_cut k (let n = length_push cs c in omega arith))) t)
+    (cases_lt k (length cs))
 
 -- three of the stops 1 to n, counted to the greatest member that there can be
 pub three_counted : (n members : ℕ) → members < 2 ^ 64 → three_stops n members ≡ true → three_stops most_member members ≡ true

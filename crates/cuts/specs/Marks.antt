@@ -1,19 +1,15 @@
 -- The bits of those numbers that pass a test. Assumes nothing.
-use Rattle.std.specs.Prelude.{◌≡◌, ℕ, zero, suc, ◌*◌, ◌/◌, ◌%◌, ◌^◌, ◌<◌, ◌≤◌, Bool, true, false, ◌≢◌, nat_eq, refl}
-use Rattle.std.proofs.Common.{sym, ap, subst, ◌∙◌, ⊎_elim, arith}
-use Rattle.std.proofs.lemmas.Nat.{shl-shr}
-use Rattle.std.proofs.lemmas.Bool.{cases_eq, cases_lt, cond_both}
+use Rattle.std.specs.Prelude.{◌≡◌, ℕ, zero, suc, ◌<◌, ◌≤◌, Bool, true, false, ◌≢◌, refl}
+use Rattle.std.proofs.Common.{sym, subst, ◌∙◌, ⊎_elim, arith}
+use Rattle.std.proofs.lemmas.Nat.Bits.{bit_at-pow_same}
+use Rattle.std.proofs.lemmas.Bool.{eq-eqb, cases_eq, cases_lt, cond_both}
 use Rattle.stops.specs.Stops.{member, just}
 use Rattle.stops.proofs.Members.{none_in_empty, in_left, in_right, of_either, only_just}
 use Rattle.cuts.specs.declared.bits.Bits.{Bits}
 use Rattle.cuts.specs.Bits.{stands, with_bit, bits_where}
 
 pub in_just : (k : ℕ) → member (just k) k ≡ true
-in_just k =
-    let s = shl-shr 1 k in
-    let one : 1 * 2 ^ k ≡ 2 ^ k = omega arith in
-    let q : 2 ^ k / 2 ^ k ≡ 1 = ap (λ n. n / 2 ^ k) (sym one) ∙ s in
-    ap (λ n. nat_eq (n % 2) 1) q
+in_just k = eq-eqb _ _ (bit_at-pow_same k)
 
 -- true of one test, true of the other
 same_test : (a b : Bool) → (a ≡ true → b ≡ true) → (b ≡ true → a ≡ true) → a ≡ b

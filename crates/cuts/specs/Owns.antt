@@ -82,10 +82,10 @@ module _ (cs : List Cut) where
 
   -- SIZES
 
-  gap_small : (a b : Bits) → gap_between cs a b ≤ penalties_of cs
+  pub gap_small : (a b : Bits) → gap_between cs a b ≤ penalties_of cs
   gap_small a b = sum_le (λ k. lag (cut_at cs k) (stands a k) (stands b k)) (λ k. (cut_at cs k).penalty) (length cs) (λ k l. some_penalty (stands a k && not (stands b k)) (cut_at cs k).penalty)
 
-  charge_small : (j : ℕ) (bits : Bits) → charge_at cs j bits ≤ penalties_of cs
+  pub charge_small : (j : ℕ) (bits : Bits) → charge_at cs j bits ≤ penalties_of cs
   charge_small j bits = sum_le (λ k. fee (cut_at cs k) j (stands bits k)) (λ k. (cut_at cs k).penalty) (length cs) (λ k l. some_penalty _ (cut_at cs k).penalty)
 
   pub penalties_small : {n : ℕ} → Good n cs → penalties_of cs ≤ 2 ^ 35

@@ -7,6 +7,11 @@ use Rattle.cuts.specs.Bits.{sum_below}
 pub sum_more : (f : ℕ → ℕ) (n : ℕ) → sum_below f (n + 1) ≡ sum_below f n + f n
 sum_more f n = ap (sum_below f) (let e : n + 1 ≡ suc n = omega arith in e)
 
+-- the first apart
+pub sum_first : (f : ℕ → ℕ) (n : ℕ) → sum_below f (suc n) ≡ f 0 + sum_below (λ k. f (suc k)) n
+sum_first f zero = omega arith
+sum_first f (suc n) = let h = sum_first f n in omega arith
+
 pub sum_le : (f g : ℕ → ℕ) (n : ℕ) → ((k : ℕ) → k < n → f k ≤ g k) → sum_below f n ≤ sum_below g n
 sum_le f g zero h = omega arith
 sum_le f g (suc n) h = let s = sum_le f g n (λ k l. h k (omega arith)) in let l = h n (omega arith) in omega arith

@@ -75,7 +75,7 @@ good_at n cs k g = record { sparse = g.sparse k; cheap = g.cheap k; kept = g.kep
 pub good_each : (n : ℕ) (cs : List Cut) → length cs ≤ 32 → ((k : ℕ) → GoodCut (cut_at cs k)) → Good n cs
 good_each n cs few g = record { few = few; sparse = λ k. (g k).sparse; cheap = λ k. (g k).cheap; kept = λ k. (g k).kept }
 
-good_set : (n : ℕ) (cs : List Cut) (k : ℕ) (c : Cut) → Good n cs → GoodCut c → Good n (slice_set cs k c)
+pub good_set : (n : ℕ) (cs : List Cut) (k : ℕ) (c : Cut) → Good n cs → GoodCut c → Good n (slice_set cs k c)
 good_set n cs k c g h = good_each n (slice_set cs k c) (let e = length-set cs k c in let f = g.few in omega arith) (each_set GoodCut blank_cut cs k c (λ i. good_at n cs i g) h)
 
 -- it holds of one element more
@@ -85,7 +85,7 @@ each_push P d [] y h p (suc i) = h i
 each_push P d (x ∷ xs) y h p zero = h 0
 each_push P d (x ∷ xs) y h p (suc i) = each_push P d xs y (λ i. h (suc i)) p i
 
-good_push : (n : ℕ) (cs : List Cut) (c : Cut) → length cs < 32 → Good n cs → GoodCut c → Good n (cs ++ c ∷ [])
+pub good_push : (n : ℕ) (cs : List Cut) (c : Cut) → length cs < 32 → Good n cs → GoodCut c → Good n (cs ++ c ∷ [])
 good_push n cs c l g h = good_each n (cs ++ c ∷ []) (let e = length_push cs c in omega arith) (each_push GoodCut blank_cut cs c (λ i. good_at n cs i g) h)
 
 -- WHAT GROWS

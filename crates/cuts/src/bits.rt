@@ -3,6 +3,7 @@ ghost use Rattle.std.specs.Prelude.{◌≡◌, ◌<◌};
 ghost use Rattle.cuts.specs.Bits.{no_bits, stands, with_bit};
 
 /// A bit for each cut: bit k of the word stands for cut k.
+// One type for this and for sets of stops is no plainer: it would need a trait over both words.
 #[derive(Clone, Copy)]
 pub struct Bits {
     word: u32,

@@ -1,22 +1,27 @@
 //! Making a table of cuts, and changing it.
-ghost use Rattle.std.specs.Prelude.{◌≡◌, ◌<◌, [], replicate, ◌==◌};
+ghost use Rattle.std.specs.Prelude.{◌≡◌, ◌<◌, cond, Ok, Err, [], length, ◌==◌, unsigned_abs};
 ghost use Rattle.tier.specs.Refusals.{Did};
 ghost use Rattle.cuts.specs.Contents.{cuts_of};
-ghost use Rattle.cuts.specs.Cuts.{most_cuts, blank_cut};
+ghost use Rattle.cuts.specs.Cuts.{most_cuts};
 ghost use Rattle.cuts.specs.Tables.{in_range, three_stops, set_penalty, tighten_old, tighten_new, tighten_cut};
 
 use super::cut::Cut;
-use super::table::{CutTable, MOST_CUTS};
+use super::table::CutTable;
+use arrayvec::ArrayVec;
+use std::cmp::Ordering;
 use stops::StopSet;
 use tier::Refusal;
 
-const MOST_PENALTY: i64 = 1 << 30;
+const MOST_PENALTY: u32 = 1 << 30;
 
-// Whether the amount is 0 to 2^30.
-fn is_penalty(amount: i64) -> bool
-    ensures { result ≡ in_range amount }
+// The amount as a penalty, which is 0 to 2^30.
+fn as_penalty(amount: i64) -> Result<u32, Refusal>
+    ensures { result ≡ cond (in_range amount) (Ok (unsigned_abs amount)) (Err Refusal.BadAmount) }
 {
-    0 <= amount && amount <= MOST_PENALTY
+    match u32::try_from(amount) {
+        Ok(penalty) if penalty <= MOST_PENALTY => Ok(penalty),
+        _ => Err(Refusal::BadAmount),
+    }
 }
 
 // Whether the members are three of the stops 1 to `stops`.
@@ -26,32 +31,13 @@ fn are_three(stops: usize, members: StopSet) -> bool
     members.all_stops(stops) && members.count(stops) == 3
 }
 
-// What stands past the cuts of a table.
-fn blank() -> Cut
-    ensures { result ≡ blank_cut }
-{
-    Cut {
-        stops: StopSet::empty(),
-        memory: StopSet::empty(),
-        penalty: 0,
-    }
-}
-
-// What stands in the array of a table without cuts.
-fn blanks() -> [Cut; MOST_CUTS]
-    ensures { result ≡ replicate most_cuts blank_cut }
-{
-    [blank(); MOST_CUTS]
-}
-
 impl CutTable {
     /// The table without cuts.
     pub(crate) fn new() -> CutTable
         ensures { cuts_of result ≡ [] }
     {
         CutTable {
-            cuts: blanks(),
-            count: 0,
+            cuts: ArrayVec::new(),
         }
     }
 
@@ -59,13 +45,8 @@ impl CutTable {
     pub(crate) fn set_penalty(&mut self, index: usize, amount: i64) -> Result<(), Refusal>
         ensures { Did (set_penalty (cuts_of self.old) index amount) (cuts_of self.old) result (cuts_of self.new) }
     {
-        if index >= self.count {
-            return Err(Refusal::NoSuchIndex);
-        }
-        if !is_penalty(amount) {
-            return Err(Refusal::BadAmount);
-        }
-        self.cuts[index].penalty = amount as u32;
+        let cut = self.cuts.get_mut(index).ok_or(Refusal::NoSuchIndex)?;
+        cut.penalty = as_penalty(amount)?;
         Ok(())
     }
 
@@ -80,21 +61,18 @@ impl CutTable {
     ) -> Result<(), Refusal>
         ensures { Did (tighten_cut stops (cuts_of self.old) index members.word amount) (cuts_of self.old) result (cuts_of self.new) }
     {
-        if index > self.count {
-            return Err(Refusal::NoSuchIndex);
-        }
-        if index < self.count {
-            self.remember(stops, index, members, amount)
-        } else {
-            self.add(stops, members, amount)
+        match index.cmp(&self.cuts.len()) {
+            Ordering::Less => self.remember(stops, index, members, amount),
+            Ordering::Equal => self.add(stops, members, amount),
+            Ordering::Greater => Err(Refusal::NoSuchIndex),
         }
     }
 
     // Whether there is no place for another cut.
     fn is_full(&self) -> bool
-        ensures { result ≡ (self.now.count == most_cuts) }
+        ensures { result ≡ (length (cuts_of self.now) == most_cuts) }
     {
-        self.count == MOST_CUTS
+        self.cuts.is_full()
     }
 
     // Adds to the memory of a cut.
@@ -105,7 +83,7 @@ impl CutTable {
         members: StopSet,
         amount: i64,
     ) -> Result<(), Refusal>
-        requires { index < self.old.count }
+        requires { index < length (cuts_of self.old) }
         ensures { Did (tighten_old stops (cuts_of self.old) index members.word amount) (cuts_of self.old) result (cuts_of self.new) }
     {
         if !members.all_stops(stops) {
@@ -128,15 +106,12 @@ impl CutTable {
         if !are_three(stops, members) {
             return Err(Refusal::BadMembers);
         }
-        if !is_penalty(amount) {
-            return Err(Refusal::BadAmount);
-        }
-        self.cuts[self.count] = Cut {
+        let penalty = as_penalty(amount)?;
+        self.cuts.push(Cut {
             stops: members,
             memory: members,
-            penalty: amount as u32,
-        };
-        self.count += 1;
+            penalty,
+        });
         Ok(())
     }
 }

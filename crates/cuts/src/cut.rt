@@ -6,7 +6,7 @@ ghost use Rattle.cuts.specs.Tables.{remember};
 use stops::StopSet;
 
 /// A cut: its stops, the stops at which its bit is kept, and its penalty.
-#[derive(Clone, Copy)]
+#[derive(Clone, Copy, Default)]
 pub struct Cut {
     /// three stops
     pub stops: StopSet,
@@ -37,7 +37,7 @@ impl Cut {
         ensures { result ≡ fee self to bit }
     {
         if self.stops.has(to) && self.kept(to, bit) {
-            self.penalty as u64
+            u64::from(self.penalty)
         } else {
             0
         }
@@ -48,9 +48,8 @@ impl Cut {
         ensures { result ≡ remember self members.word }
     {
         Cut {
-            stops: self.stops,
             memory: self.memory.joined(members),
-            penalty: self.penalty,
+            ..self
         }
     }
 
@@ -58,6 +57,6 @@ impl Cut {
     pub(crate) fn lag(self, a: bool, b: bool) -> u64
         ensures { result ≡ lag self a b }
     {
-        if a && !b { self.penalty as u64 } else { 0 }
+        if a && !b { u64::from(self.penalty) } else { 0 }
     }
 }

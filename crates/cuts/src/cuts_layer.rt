@@ -4,7 +4,8 @@ ghost use Rattle.layer.specs.Layers.{layer_at};
 ghost use Rattle.cuts.specs.Contents.{cuts_of};
 ghost use Rattle.cuts.specs.Layer.{cuts, cuts_pairing, cuts_kind};
 ghost use Rattle.layer.proofs.Lawful.{made_lawful};
-ghost use Rattle.cuts.specs.Tables.{Good};
+ghost use Rattle.tier.specs.Refusals.{Did};
+ghost use Rattle.cuts.specs.Tables.{Good, set_penalty};
 ghost use Rattle.cuts.specs.TablesLemmas.{cuts_kind_laws};
 ghost use Rattle.cuts.specs.Arrays.{table_good};
 
@@ -39,8 +40,18 @@ impl<B: Tier> Cuts<B> {
             table: CutTable::new(),
         }
     }
+
+    // A set at the layer's own height.
+    fn set_own(&mut self, index: usize, amount: i64) -> Result<(), Refusal>
+        ensures did { Did (set_penalty (cuts_of self.old.table) index amount) (cuts_of self.old.table) result (cuts_of self.new.table) }
+        ensures below { self.new.below ≡ self.old.below }
+    {
+        self.table.set_penalty(index, amount)
+    }
 }
 
+// Each layer is a record of its own over the state below, as the rules of this project ask: so each hands
+// down by itself what it does not change.
 impl<B: Tier> Tier for Cuts<B> {
     type State = CutsState<B::State>;
 
@@ -111,7 +122,7 @@ impl<B: Tier> Tier for Cuts<B> {
 
     fn set(&mut self, tier: usize, index: usize, amount: i64) -> Result<(), Refusal> {
         if tier == self.tiers() {
-            return self.table.set_penalty(index, amount);
+            return self.set_own(index, amount);
         }
         self.below.set(tier, index, amount)
     }

@@ -8,12 +8,10 @@ ghost use Rattle.layer.specs.Sums.{charge_sum, gap_sum};
 pub fn add_charge(below: i64, own: u64) -> Option<i64>
     ensures { result ≡ charge_sum below own }
 {
-    let sum = below as i128 + own as i128;
-    if sum < i64::MIN as i128 || sum > i64::MAX as i128 {
-        return None;
-    }
-    Some(sum as i64)
+    below.checked_add_unsigned(own)
 }
+
+// Two functions: a charge has a sign, and a gap has none.
 
 /// A gap below with the layer's own; `None` outside the word.
 pub fn add_gap(below: u64, own: u64) -> Option<u64>

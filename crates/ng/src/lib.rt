@@ -11,6 +11,7 @@ ghost use Rattle.ng.specs.Ng.{near_of, first_near, recall, ng as «ng_meaning»,
 ghost use Rattle.layer.proofs.Lawful.{made_lawful};
 ghost use Rattle.ng.specs.Laws.{AnyTable, ng_kind_laws};
 
+use std::array;
 use stops::{MOST_PLACES, StopSet};
 use tier::{MOST_TIERS, Refusal, Tier, height_over};
 
@@ -32,11 +33,7 @@ pub struct Ng<B> {
 fn each_alone() -> [StopSet; MOST_PLACES]
     ensures { result ≡ first_near }
 {
-    let mut near = [StopSet::empty(); MOST_PLACES];
-    for place in 0..MOST_PLACES {
-        near[place] = StopSet::just(place);
-    }
-    near
+    array::from_fn(StopSet::just)
 }
 
 // What is remembered on reaching a stop with this neighbourhood.
@@ -68,6 +65,8 @@ impl<B: Tier> Ng<B> {
     }
 }
 
+// Each layer is a record of its own over the state below, as the rules of this project ask: so each hands
+// down by itself what it does not change.
 impl<B: Tier> Tier for Ng<B> {
     type State = NgState<B::State>;
 
@@ -125,11 +124,7 @@ impl<B: Tier> Tier for Ng<B> {
             return Some(0);
         }
         let gap = self.below.gap(a.below, b.below)?;
-        if a.memory.within(b.memory) {
-            Some(gap)
-        } else {
-            None
-        }
+        a.memory.within(b.memory).then_some(gap)
     }
 
     fn credit(&self) -> i64 {
@@ -157,7 +152,7 @@ impl<B: Tier> Tier for Ng<B> {
             return self.below.tighten(tier, index, members, amount);
         }
         let stops = self.below.stops();
-        if index < 1 || index > stops {
+        if !(1..=stops).contains(&index) {
             return Err(Refusal::NoSuchIndex);
         }
         if !members.all_stops(stops) {

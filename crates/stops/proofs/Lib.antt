@@ -1,3 +1,2 @@
 pub mod Lists
-pub mod Bits
 pub mod Members

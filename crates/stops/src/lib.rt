@@ -3,8 +3,8 @@
 //! Stops are numbered from 1 to n, and place 0 is the depot.
 #![tactic(auto)]
 
-ghost use Rattle.std.specs.Prelude.{◌≡◌, ◌+◌, ◌^◌, if◌then◌else◌, nat_lt};
-ghost use Rattle.stops.specs.Stops.{member, just, common, joined, within as «within_set», all_stops, count_to, empty_set};
+ghost use Rattle.std.specs.Prelude.{◌≡◌, ◌+◌, ◌^◌, ◌≤◌, if◌then◌else◌, nat_lt};
+ghost use Rattle.stops.specs.Stops.{member, just, common, joined, within as «within_set», all_stops, count_to, empty_set, most_member};
 
 /// The most stops there can be: n is at most this.
 pub const MOST_STOPS: usize = 60;
@@ -14,12 +14,13 @@ pub const MOST_PLACES: usize = MOST_STOPS + 1;
 
 /// A set of stops: bit j of its word stands for stop j. Bit 0 and the bits above n can be
 /// written; a call that takes nothing but stops refuses such a set.
-#[derive(Clone, Copy)]
+#[derive(Clone, Copy, PartialEq, Eq, Debug, Default)]
 pub struct StopSet {
     word: u64,
 }
 
 impl StopSet {
+    // Named as `f64::from_bits` and `to_bits` are: a `From` would not say that a number is read as bits.
     pub fn from_word(word: u64) -> StopSet
         ensures { result.word ≡ word }
     {
@@ -29,8 +30,7 @@ impl StopSet {
     pub fn word(self) -> u64
         ensures { result ≡ self.word }
     {
-        let StopSet { word } = self;
-        word
+        self.word
     }
 
     pub fn empty() -> StopSet
@@ -46,7 +46,7 @@ impl StopSet {
         if stop < 64 {
             StopSet { word: 1 << stop }
         } else {
-            StopSet { word: 0 }
+            StopSet::empty()
         }
     }
 
@@ -79,14 +79,14 @@ impl StopSet {
     pub fn within(self, other: StopSet) -> bool
         ensures { result ≡ «within_set» self.word other.word }
     {
-        self.word & other.word == self.word
+        self.common(other) == self
     }
 
     /// Whether every member is one of the stops 1 to `stops`.
     pub fn all_stops(self, stops: usize) -> bool
         ensures { result ≡ all_stops stops self.word }
     {
-        self.word % 2 == 0 && self.none_past(stops)
+        !self.has(0) && self.none_past(stops)
     }
 
     // Whether no member is past `last`.
@@ -97,15 +97,18 @@ impl StopSet {
     }
 
     /// How many of the stops 1 to `stops` are members.
+    #[tactic(auto, using(crate::proofs::Members::all_counted))]
     pub fn count(self, stops: usize) -> usize
         ensures { result ≡ count_to (member self.word) stops }
     {
-        let mut members = 0;
-        for stop in 1..stops.min(63) + 1 {
-            if self.has(stop) {
-                members += 1;
-            }
-        }
-        members
+        self.count_to(stops.min(63))
+    }
+
+    // The same, where the last stop is one that a set can have.
+    fn count_to(self, last: usize) -> usize
+        requires { last ≤ most_member }
+        ensures { result ≡ count_to (member self.word) last }
+    {
+        (1..last + 1).filter(|stop| self.has(*stop)).count()
     }
 }

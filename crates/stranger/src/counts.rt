@@ -1,5 +1,6 @@
 //! The counting bottom as a tier.
-ghost use Rattle.std.specs.Prelude.{◌≡◌};
+ghost use Rattle.std.specs.Prelude.{◌≡◌, ◌==◌, if◌then◌else◌};
+ghost use Rattle.tier.specs.Refusals.{number as «number_of»};
 ghost use Rattle.stranger.specs.Counter.{counter};
 ghost use Rattle.stranger.specs.Counting.{counter_lawful};
 
@@ -11,6 +12,17 @@ use tier::{Refusal, Tier};
 #[derive(Clone, Copy)]
 pub struct Count {
     pub made: u8,
+}
+
+// Why this bottom takes no set and no tighten.
+fn refused(tier: usize) -> Refusal
+    ensures { «number_of» result ≡ (if tier == 1 then 7 else 6) }
+{
+    if tier == 1 {
+        Refusal::NotAtThisTier
+    } else {
+        Refusal::NoSuchTier
+    }
 }
 
 impl Tier for Counter {
@@ -35,7 +47,7 @@ impl Tier for Counter {
     }
 
     fn key(&self, state: Count) -> u64 {
-        state.made as u64
+        u64::from(state.made)
     }
 
     fn reach(&self, state: Count, from: usize, to: usize) -> Option<(Count, i64)> {
@@ -54,14 +66,11 @@ impl Tier for Counter {
     }
 
     fn finish(&self, state: Count, from: usize) -> Option<i64> {
-        if from == 0 || from > self.stops {
-            return None;
-        }
-        Some(5)
+        (1..=self.stops).contains(&from).then_some(5)
     }
 
     fn gap(&self, a: Count, b: Count) -> Option<u64> {
-        if a.made <= b.made { Some(0) } else { None }
+        (a.made <= b.made).then_some(0)
     }
 
     fn credit(&self) -> i64 {
@@ -69,10 +78,7 @@ impl Tier for Counter {
     }
 
     fn set(&mut self, tier: usize, index: usize, amount: i64) -> Result<(), Refusal> {
-        if tier != 1 {
-            return Err(Refusal::NoSuchTier);
-        }
-        Err(Refusal::NotAtThisTier)
+        Err(refused(tier))
     }
 
     fn tighten(
@@ -82,9 +88,6 @@ impl Tier for Counter {
         members: StopSet,
         amount: i64,
     ) -> Result<(), Refusal> {
-        if tier != 1 {
-            return Err(Refusal::NoSuchTier);
-        }
-        Err(Refusal::NotAtThisTier)
+        Err(refused(tier))
     }
 }

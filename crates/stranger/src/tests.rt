@@ -38,14 +38,7 @@ fn over_four_tiers_nothing_is_reached(rt: HostRuntime) {
 #[test]
 fn the_layer_refuses_its_own_number_and_passes_others_down(rt: HostRuntime) {
     let mut pile = Through::new(Counter::new(5, 3));
-    assert_eq!(rt; number(pile.set(2, 1, 0)), 7);
-    assert_eq!(rt; number(pile.set(1, 1, 0)), 7);
-    assert_eq!(rt; number(pile.set(3, 1, 0)), 6);
-}
-
-fn number(res: Result<(), Refusal>) -> u8 {
-    match res {
-        Ok(_) => 0,
-        Err(refusal) => refusal.number(),
-    }
+    assert_eq!(rt; pile.set(2, 1, 0).map_err(Refusal::number), Err(7));
+    assert_eq!(rt; pile.set(1, 1, 0).map_err(Refusal::number), Err(7));
+    assert_eq!(rt; pile.set(3, 1, 0).map_err(Refusal::number), Err(6));
 }

@@ -26,6 +26,8 @@ impl<B: Tier> Through<B> {
     }
 }
 
+// Each layer is a record of its own over the state below, as the rules of this project ask: so each hands
+// down by itself what it does not change.
 impl<B: Tier> Tier for Through<B> {
     type State = Passed<B::State>;
 

@@ -1,5 +1,5 @@
 -- What a call gives, and what it did. Assumes nothing.
-use Rattle.std.proofs.Common.{◌≡◌, ℕ, Ok, Err, Result, refl, ap, arith}
+use Rattle.std.proofs.Common.{◌≡◌, ℕ, Ok, Err, Result, refl, ap}
 use Rattle.tier.specs.Meaning.{Outcome, taken, refused, lifted}
 use Rattle.tier.specs.Refusals.{Did}
 use Rattle.tier.specs.declared.refusal.Refusal.{Refusal}
@@ -8,7 +8,7 @@ pub taken_same : {V : Type 0} {v w : V} → taken v ≡ taken w → v ≡ w
 taken_same e = cc
 
 pub refused_taken : {V : Type 0} {n : ℕ} {w : V} → refused n ≡ taken w → ⊥
-refused_taken e = let z : ◌≡◌ {A = ℕ} 0 1 = cc in omega arith
+refused_taken e = cc
 
 -- what was taken inside
 pub record TakenInside {V W : Type 0} (f : V → W) (o : Outcome V) (w : W) : Type 0 where

@@ -11,28 +11,12 @@ mod replays;
 ghost use Rattle.std.specs.Prelude.{◌≡◌};
 ghost use Rattle.tier.specs.Meaning.{Meaning};
 ghost use Rattle.tier.specs.Laws.{Lawful};
-ghost use Rattle.tier.specs.Refusals.{number as «number_of», Did};
+ghost use Rattle.tier.specs.Refusals.{Did};
 
 pub use height::{MOST_TIERS, height_over};
 pub use refusal::Refusal;
 pub use replays::replay;
 use stops::StopSet;
-
-impl Refusal {
-    /// The number by which the refusal is known.
-    pub fn number(self) -> u8
-        ensures { result ≡ «number_of» self }
-    {
-        match self {
-            Refusal::NoSuchTier => 6,
-            Refusal::NotAtThisTier => 7,
-            Refusal::NoSuchIndex => 8,
-            Refusal::BadAmount => 9,
-            Refusal::BadMembers => 10,
-            Refusal::TableFull => 11,
-        }
-    }
-}
 
 /// A resource model along a route. Its meaning fixes the answer to every question for all
 /// arguments, and what each call gives; `value` is where this tier stands now.

@@ -19,6 +19,7 @@ pub fn replay<T: Tier>(tier: &T, route: &[usize]) -> Option<i64>
 fn go<T: Tier>(tier: &T, route: &[usize]) -> Option<(T::State, usize, i64)>
     ensures { Went (T.meaning.answers (T.value tier.now)) route.now result }
 {
+    // A loop: that the cost fits a word is its invariant.
     let mut state = tier.start();
     let mut from = 0;
     let mut cost = 0i64;

@@ -1,26 +1,27 @@
-use Rattle.std.proofs.Common.{◌≡◌, ℕ, suc, ◌+◌, ◌<◌, cond, ltb, List, [], ◌∷◌, ◌++◌, length, take, set, sym, ap, ◌∙◌, arith}
-use Rattle.std.proofs.lemmas.List.{length-set, take_more_set, take_all}
+use Rattle.std.proofs.Common.{rules, ◌≡◌, ℕ, zero, suc, ◌+◌, ◌<◌, ◌≤◌, cond, ltb, List, [], ◌∷◌, ◌++◌, map, length, get_or, refl, ap, ◌∙◌, arith}
+use Rattle.std.specs.List.{range_with_len}
+use Rattle.std.proofs.lemmas.List.FromFn.{map-range_with_len_more, fill_by_all}
 use Rattle.std.proofs.lemmas.Bool.{lt-ltb}
 use Rattle.stops.specs.Stops.{just, empty_set}
 use Rattle.stops.specs.declared.StopSet.{StopSet}
 use Rattle.ng.specs.Ng.{set_of, alone_to}
 use Rattle.ng.proofs.each_alone.Goals as goal
 
-alone_more : (near : List StopSet) (place : ℕ) (s : StopSet) → place < length near → s.word ≡ cond (ltb place 64) (just place) empty_set → place < 64 → take place near ≡ alone_to place → take (place + 1) (set near place s) ≡ alone_to (place + 1)
-alone_more near place s within is small before =
-    let alone : s.word ≡ just place = is ∙ ap (λ b. cond b (just place) empty_set) (lt-ltb place 64 small) in
-    let next : suc place ≡ place + 1 = omega arith in
-    take_more_set near place s within ∙ ap (λ xs. xs ++ s ∷ []) before ∙ ap (λ w. alone_to place ++ set_of w ∷ []) alone ∙ ap alone_to next
+abbrev alone : ℕ → StopSet
+alone k = set_of (just k)
 
-pub loop-place-preserved : goal.loop-place-preserved
-loop-place-preserved c =
-    let near = c.loop-place.near in
-    let len = c.loop-place.invariant.0 in
-    (length-set near c.loop-place.place c.just.result ∙ len, alone_more near c.loop-place.place c.just.result (omega arith) c.just.ensures (omega arith) c.loop-place.invariant.1)
+alone_in_range : (n : ℕ) → map alone (range_with_len 0 n) ≡ alone_to n
+alone_in_range zero = refl
+alone_in_range (suc n) =
+    ap (λ m. map alone (range_with_len 0 m)) (let e : suc n ≡ n + 1 = omega arith in e)
+    ∙ map-range_with_len_more alone 0 n n (omega arith)
+    ∙ ap (λ xs. xs ++ alone n ∷ []) (alone_in_range n)
+
+each_made : (near : List StopSet) (n : ℕ) → n ≤ 64 → length near ≡ n → ((k : ℕ) → k < n → (get_or near k (set_of empty_set)).word ≡ cond (ltb k 64) (just k) empty_set) → near ≡ alone_to n
+each_made near n small long h =
+    fill_by_all alone near n (set_of empty_set) long (λ k l. ap set_of (h k l ∙ ap (λ b. cond b (just k) empty_set) (lt-ltb k 64 (omega arith)))) ∙ alone_in_range n
 
 pub returns : goal.returns
 returns c =
-    let near = c.loop-place.near in
-    let len = c.loop-place.invariant.0 in
-    let end : c.loop-place.place ≡ 61 = omega arith in
-    sym (take_all c.loop-place.place near (omega arith)) ∙ c.loop-place.invariant.1 ∙ ap alone_to end
+    let made = c.from_fn.ensures.items in
+    each_made c.from_fn.result 61 (omega arith) made.long (λ k l. let called = (made.at k (set_of empty_set) l).2 in search rules)

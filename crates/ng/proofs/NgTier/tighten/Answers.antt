@@ -1,4 +1,4 @@
-use Rattle.std.proofs.Common.{◌<◌, arith}
+use Rattle.std.proofs.Common.{rules, ◌<◌, ◌≤◌, arith}
 use Rattle.tier.specs.Meaning.{here}
 use Rattle.ng.proofs.NgTier.tighten.Given as given
 use Rattle.ng.proofs.NgTier.tighten.Goals as goal
@@ -10,7 +10,7 @@ index_small g c =
     let t = c.args.self.now.below in
     let few = (g.met.B.Tier.lawful t (g.B.Tier.value t) here).sizes.few_stops in
     let stops = c.stops-stops.ensures in
-    let low = c.if-index-stops.false in
+    let within : c.args.index ≤ c.stops-stops.result = search rules in
     omega arith
 
 pub offset_bounds-self-index : goal.offset_bounds-self-index
