@@ -1,34 +1,33 @@
 //! Audits routes: prints, leg by leg, what a planner can check by hand. Money is in mils.
 #![tactic(auto)]
 
+mod bottom_sheet;
+mod cheapest;
+mod members;
 mod pile_sheet;
 mod rounds;
-mod route;
 mod sheet;
-mod town_sheet;
 
-use anyhow::anyhow;
-use book::{Book, OutOfRange};
+use anyhow::Context;
+use book::{Book, Leg};
+use cheapest::{Route, cheaper_of};
 use cuts::Cuts;
 use ng::Ng;
-use pile_sheet::{Pile, print_pile_sheet};
+use pile_sheet::Pile;
 use round::Round;
 use rounds::{early_close, four_visits, two_visits};
-use sheet::{Cheapest, cheaper_of, print_sheet};
+use sheet::print_sheet;
 use std::io;
 use stops::StopSet;
 use tier::{Refusal, Tier};
 use town::Town;
-use town_sheet::print_town_sheet;
 
 fn print_legs(rt: &HostRuntime, book: &Book, from: usize) -> io::Result<()> {
-    for to in 0..book.stops().saturating_add(1) {
-        if let Some(leg) = book.leg(from, to) {
-            let cost = leg.cost;
-            let minutes = leg.minutes;
-            if from != to {
-                println!(rt; "  leg {from} to {to}: cost {cost}, {minutes} minutes")?;
-            }
+    for to in 0..=book.stops() {
+        if from != to
+            && let Some(Leg { cost, minutes }) = book.leg(from, to)
+        {
+            println!(rt; "  leg {from} to {to}: cost {cost}, {minutes} minutes")?;
         }
     }
     Ok(())
@@ -38,7 +37,7 @@ fn print_legs(rt: &HostRuntime, book: &Book, from: usize) -> io::Result<()> {
 fn print_book(rt: &HostRuntime, book: &Book) -> io::Result<()> {
     let capacity = book.fleet().capacity;
     println!(rt; "  capacity {capacity}")?;
-    for stop in 1..book.stops().saturating_add(1) {
+    for stop in 1..=book.stops() {
         if let Some(visit) = book.visit(stop) {
             let opens = visit.opens;
             let closes = visit.closes;
@@ -46,7 +45,7 @@ fn print_book(rt: &HostRuntime, book: &Book) -> io::Result<()> {
             println!(rt; "  stop {stop}: window {opens} to {closes}, load {load}")?;
         }
     }
-    for from in 0..book.stops().saturating_add(1) {
+    for from in 0..=book.stops() {
         print_legs(rt, book, from)?;
     }
     Ok(())
@@ -57,34 +56,27 @@ fn print_orders(rt: &HostRuntime, round: &Round) -> io::Result<()> {
     let first = print_sheet(rt, round, &[1, 2])?;
     let second = print_sheet(rt, round, &[2, 1])?;
     match cheaper_of(first, second) {
-        Cheapest::First => println!(rt; "  in the cheapest, visit 1 comes first"),
-        Cheapest::Second => println!(rt; "  in the cheapest, visit 2 comes first"),
-        Cheapest::Neither => println!(rt; "  neither order is admitted"),
+        Some(Route::First) => println!(rt; "  in the cheapest, visit 1 comes first"),
+        Some(Route::Second) => println!(rt; "  in the cheapest, visit 2 comes first"),
+        None => println!(rt; "  neither order is admitted"),
     }
 }
 
 fn set_duals(round: &mut Round, duals: [i64; 2]) -> Result<(), Refusal> {
-    round.set(1, 1, duals[0])?;
-    round.set(1, 2, duals[1])
+    for (stop, dual) in (1..=2).zip(duals) {
+        round.set(1, stop, dual)?;
+    }
+    Ok(())
 }
 
-fn audit(
-    rt: &HostRuntime,
-    title: &str,
-    book: Result<Book, OutOfRange>,
-    duals: [i64; 2],
-) -> anyhow::Result<()> {
-    let Ok(book) = book else {
-        return Err(anyhow!("a number of the book is out of range"));
-    };
+fn audit(rt: &HostRuntime, title: &str, book: Book, duals: [i64; 2]) -> anyhow::Result<()> {
     println!(rt; "{title}")?;
     print_book(rt, &book)?;
     let mut round = Round::new(book);
-    let Ok(()) = set_duals(&mut round, duals) else {
-        return Err(anyhow!("a dual was refused"));
-    };
-    let first = duals[0];
-    let second = duals[1];
+    set_duals(&mut round, duals)
+        .ok()
+        .context("a dual was refused")?;
+    let [first, second] = duals;
     println!(rt; "  duals {first} and {second}")?;
     print_orders(rt, &round)?;
     println!(rt)?;
@@ -93,15 +85,13 @@ fn audit(
 
 // Over Town: a charger on the way, and one that comes too late.
 fn audit_town(rt: &HostRuntime) -> anyhow::Result<()> {
-    let Ok(book) = two_visits(10) else {
-        return Err(anyhow!("a number of the book is out of range"));
-    };
+    let book = two_visits(10)?;
     println!(rt; "The two visits over Town: battery 9, a charger at stop 2, at most 2 stops")?;
     let town = Town::new(book);
-    print_town_sheet(rt, &town, &[1, 2])?;
-    print_town_sheet(rt, &town, &[2, 1])?;
-    print_town_sheet(rt, &town, &[1])?;
-    print_town_sheet(rt, &town, &[2, 1, 2])?;
+    print_sheet(rt, &town, &[1, 2])?;
+    print_sheet(rt, &town, &[2, 1])?;
+    print_sheet(rt, &town, &[1])?;
+    print_sheet(rt, &town, &[2, 1, 2])?;
     println!(rt)?;
     Ok(())
 }
@@ -115,42 +105,38 @@ fn add_cut(pile: &mut Pile) -> Result<(), Refusal> {
 
 // Over ng and cuts: a stop that comes back until it is remembered, and a cut that is paid.
 fn audit_pile(rt: &HostRuntime) -> anyhow::Result<()> {
-    let Ok(book) = four_visits() else {
-        return Err(anyhow!("a number of the book is out of range"));
-    };
+    let book = four_visits()?;
     println!(rt; "Four visits over Round with ng and cuts: legs of cost 2 and one minute")?;
     let mut pile = Cuts::new(Ng::new(Round::new(book)));
     println!(rt; "  each stop alone in its neighbourhood, no cut")?;
-    print_pile_sheet(rt, &pile, &[1, 2, 1])?;
+    print_sheet(rt, &pile, &[1, 2, 1])?;
     println!(rt; "  stop 1 in the neighbourhood of stop 2")?;
-    let Ok(()) = pile.tighten(2, 2, StopSet::just(1), 0) else {
-        return Err(anyhow!("a tighten was refused"));
-    };
-    print_pile_sheet(rt, &pile, &[1, 2, 1])?;
+    pile.tighten(2, 2, StopSet::just(1), 0)
+        .ok()
+        .context("a tighten was refused")?;
+    print_sheet(rt, &pile, &[1, 2, 1])?;
     println!(rt; "  cut 0 at stops 1, 2 and 3, penalty 5")?;
-    let Ok(()) = add_cut(&mut pile) else {
-        return Err(anyhow!("a cut was refused"));
-    };
-    print_pile_sheet(rt, &pile, &[1, 2, 3])?;
-    print_pile_sheet(rt, &pile, &[1, 4, 2])?;
+    add_cut(&mut pile).ok().context("a cut was refused")?;
+    print_sheet(rt, &pile, &[1, 2, 3])?;
+    print_sheet(rt, &pile, &[1, 4, 2])?;
     println!(rt; "  stop 4 in the memory of cut 0")?;
-    let Ok(()) = pile.tighten(3, 0, StopSet::just(4), 0) else {
-        return Err(anyhow!("a tighten was refused"));
-    };
-    print_pile_sheet(rt, &pile, &[1, 4, 2])?;
+    pile.tighten(3, 0, StopSet::just(4), 0)
+        .ok()
+        .context("a tighten was refused")?;
+    print_sheet(rt, &pile, &[1, 4, 2])?;
     Ok(())
 }
 
 fn main(rt: HostRuntime) -> anyhow::Result<()> {
-    audit(&rt, "Two visits", two_visits(10), [0, 0])?;
+    audit(&rt, "Two visits", two_visits(10)?, [0, 0])?;
     audit(
         &rt,
         "Two visits that are worth their duals",
-        two_visits(10),
+        two_visits(10)?,
         [16, 18],
     )?;
-    audit(&rt, "Stop 1 closes at minute 8", early_close(), [16, 18])?;
-    audit(&rt, "Vans that carry 4", two_visits(4), [16, 18])?;
+    audit(&rt, "Stop 1 closes at minute 8", early_close()?, [16, 18])?;
+    audit(&rt, "Vans that carry 4", two_visits(4)?, [16, 18])?;
     audit_town(&rt)?;
     audit_pile(&rt)
 }

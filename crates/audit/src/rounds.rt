@@ -10,10 +10,6 @@ fn visit(opens: u16, closes: u16, load: u16, charger: bool) -> Visit {
     }
 }
 
-fn leg(cost: u32, minutes: u16) -> Leg {
-    Leg { cost, minutes }
-}
-
 /// Two visits whose windows both open at minute zero.
 pub(crate) fn two_visits(capacity: u16) -> Result<Book, OutOfRange> {
     let fleet = Fleet {
@@ -25,12 +21,16 @@ pub(crate) fn two_visits(capacity: u16) -> Result<Book, OutOfRange> {
     let mut book = Book::new(2, fleet)?;
     book.put_visit(1, visit(0, 10, 2, false))?;
     book.put_visit(2, visit(0, 20, 3, true))?;
-    book.put_leg(0, 1, leg(10, 5))?;
-    book.put_leg(0, 2, leg(12, 6))?;
-    book.put_leg(1, 0, leg(10, 5))?;
-    book.put_leg(1, 2, leg(4, 3))?;
-    book.put_leg(2, 0, leg(12, 6))?;
-    book.put_leg(2, 1, leg(7, 3))?;
+    for (from, to, cost, minutes) in [
+        (0, 1, 10, 5),
+        (0, 2, 12, 6),
+        (1, 0, 10, 5),
+        (1, 2, 4, 3),
+        (2, 0, 12, 6),
+        (2, 1, 7, 3),
+    ] {
+        book.put_leg(from, to, Leg { cost, minutes })?;
+    }
     Ok(book)
 }
 
@@ -56,7 +56,14 @@ pub(crate) fn four_visits() -> Result<Book, OutOfRange> {
     for from in 0..5 {
         for to in 0..5 {
             if from != to {
-                book.put_leg(from, to, leg(2, 1))?;
+                book.put_leg(
+                    from,
+                    to,
+                    Leg {
+                        cost: 2,
+                        minutes: 1,
+                    },
+                )?;
             }
         }
     }

@@ -1,6 +1,6 @@
 -- What a book keeps of its numbers, as facts, and that each call keeps it. Assumes nothing.
-use Rattle.std.proofs.Common.{◌≡◌, ℕ, ◌<◌, ◌≤◌, Bool, true, false, cond, ◌&&◌, eqb, leb, ◌⊎◌, List, get_or, set, replicate, sym, refl, subst, ⊎_elim, arith, get_or-set_other}
-use Rattle.std.proofs.lemmas.Bool.{cases_eq, cases_lt, leb-true, le-leb, eqb-true, ne_eqb, true≢false, and_parts}
+use Rattle.std.proofs.Common.{◌≡◌, ℕ, ◌<◌, ◌≤◌, Bool, true, false, cond, ◌&&◌, eqb, leb, List, get_or, set, replicate, sym, refl, subst, ⊎_elim, arith, get_or-set_other}
+use Rattle.std.proofs.lemmas.Bool.{cases_eq, cases_lt, leb-true, eqb-true, true≢false, and_parts}
 use Rattle.std.proofs.lemmas.Bool.Decides.{nat_tests}
 use Rattle.stops.specs.Stops.{Stop, most_stops, most_places}
 use Rattle.stops.proofs.Lists.{each_copy, get_or_set_at}
@@ -100,39 +100,23 @@ pub record TakenVisit (b : Contents) (j : ℕ) (v : Visit) : Type 0 where
   pub stop : Stop b.stops j
   pub fits : visit_fits v ≡ true
 
-pub taken_visit : (b : Contents) (j : ℕ) (v : Visit) → true ≡ can_put_visit b j v → TakenVisit b j v
+pub taken_visit : (b : Contents) (j : ℕ) (v : Visit) → can_put_visit b j v ≡ true → TakenVisit b j v
 taken_visit b j v e =
-    let p = and_parts (between 1 b.stops j) (visit_fits v) (sym e) in
+    let p = and_parts (between 1 b.stops j) (visit_fits v) e in
     let q = and_parts (leb 1 j) (leb j b.stops) p.0 in
     record { stop = (leb-true _ _ q.0, leb-true _ _ q.1); fits = p.1 }
-
-pub takes_outside : (b : Contents) (i j : ℕ) (l : Leg) → (b.stops < i) ⊎ (b.stops < j) → false ≡ can_put_leg b i j l
-takes_outside b i j l o = sym (by (leb i b.stops) (leb j b.stops) refl refl)
-  where
-    by : (x y : Bool) → leb i b.stops ≡ x → leb j b.stops ≡ y → ((x && y) && cond (eqb i j) (eqb l.cost 0 && eqb l.minutes 0) (leg_fits l)) ≡ false
-    by true true f g = absurd (⊎_elim (λ h. let a = leb-true _ _ f in omega arith) (λ h. let a = leb-true _ _ g in omega arith) o)
-    by true false f g = refl
-    by false true f g = refl
-    by false false f g = refl
-
-pub takes_in_range : (b : Contents) (i j : ℕ) (l : Leg) → i ≤ b.stops → j ≤ b.stops → (i ≡ j → ⊥) → leg_fits l ≡ can_put_leg b i j l
-takes_in_range b i j l h k n =
-    let x = le-leb i b.stops h in
-    let y = le-leb j b.stops k in
-    let z = ne_eqb i j n in
-    simp (x, y, z)
 
 pub record TakenLeg (b : Contents) (i j : ℕ) (l : Leg) : Type 0 where
   pub from : i ≤ b.stops
   pub to : j ≤ b.stops
   pub fits : leg_fits l ≡ true
 
-pub taken_leg : (b : Contents) (i j : ℕ) (l : Leg) → true ≡ can_put_leg b i j l → (i ≡ j → ⊥) → TakenLeg b i j l
+pub taken_leg : (b : Contents) (i j : ℕ) (l : Leg) → can_put_leg b i j l ≡ true → (i ≡ j → ⊥) → TakenLeg b i j l
 taken_leg b i j l e n = by (leb i b.stops) (leb j b.stops) (eqb i j) refl refl refl e
   where
-    by : (x y z : Bool) → leb i b.stops ≡ x → leb j b.stops ≡ y → eqb i j ≡ z → true ≡ ((x && y) && cond z (eqb l.cost 0 && eqb l.minutes 0) (leg_fits l)) → TakenLeg b i j l
+    by : (x y z : Bool) → leb i b.stops ≡ x → leb j b.stops ≡ y → eqb i j ≡ z → ((x && y) && cond z (eqb l.cost 0 && eqb l.minutes 0) (leg_fits l)) ≡ true → TakenLeg b i j l
     by true true true f g h e = absurd (n (eqb-true i j h))
-    by true true false f g h e = record { from = leb-true _ _ f; to = leb-true _ _ g; fits = sym e }
-    by true false z f g h e = absurd (true≢false e)
-    by false true z f g h e = absurd (true≢false e)
-    by false false z f g h e = absurd (true≢false e)
+    by true true false f g h e = record { from = leb-true _ _ f; to = leb-true _ _ g; fits = e }
+    by true false z f g h e = absurd (true≢false (sym e))
+    by false true z f g h e = absurd (true≢false (sym e))
+    by false false z f g h e = absurd (true≢false (sym e))

@@ -12,7 +12,9 @@ use stops::MOST_PLACES;
 pub struct Book {
     pub(crate) stops: usize,
     pub(crate) fleet: Fleet,
+    // all places that a stop can have: without a heap, making a book cannot fail for want of memory
     pub(crate) visits: [Visit; MOST_PLACES],
+    // one flat table: with rows each fact about a leg is said of its row and again within the row
     pub(crate) legs: [Leg; TABLE_LENGTH],
     ghost fleets: { fleet_ok stops fleet ≡ true },
     ghost visiting: { VisitsOk stops visits },

@@ -7,13 +7,11 @@ use super::book::Book;
 use super::limits::{
     LAST_MINUTE, MOST_BATTERY, MOST_COST, MOST_MADE, MOST_MINUTES, MOST_VANS, TABLE_LENGTH,
 };
+use super::out_of_range::OutOfRange;
 use super::parts::{Fleet, Leg, Visit};
 use stops::{MOST_PLACES, MOST_STOPS};
 
-/// A number is outside its range, or a stop or place is not one of the book's.
-#[derive(Clone, Copy)]
-pub struct OutOfRange;
-
+// a constant cannot call `default`
 const BLANK_VISIT: Visit = Visit {
     opens: 0,
     closes: 0,
@@ -30,14 +28,10 @@ const BLANK_LEG: Leg = Leg {
 fn fits_fleet(stops: usize, fleet: Fleet) -> bool
     ensures { result ≡ fleet_fits stops fleet }
 {
-    1 <= stops
-        && stops <= MOST_STOPS
-        && 1 <= fleet.vans
-        && fleet.vans <= MOST_VANS
-        && 1 <= fleet.battery
-        && fleet.battery <= MOST_BATTERY
-        && 1 <= fleet.most
-        && fleet.most <= MOST_MADE
+    (1..=MOST_STOPS).contains(&stops)
+        && (1..=MOST_VANS).contains(&fleet.vans)
+        && (1..=MOST_BATTERY).contains(&fleet.battery)
+        && (1..=MOST_MADE).contains(&fleet.most)
 }
 
 fn fits_visit(visit: Visit) -> bool
@@ -49,13 +43,7 @@ fn fits_visit(visit: Visit) -> bool
 fn fits_leg(leg: Leg) -> bool
     ensures { result ≡ leg_fits leg }
 {
-    leg.cost <= MOST_COST && 1 <= leg.minutes && leg.minutes <= MOST_MINUTES
-}
-
-fn answer(taken: bool) -> Result<(), OutOfRange>
-    ensures { is_ok result ≡ taken }
-{
-    if taken { Ok(()) } else { Err(OutOfRange) }
+    leg.cost <= MOST_COST && (1..=MOST_MINUTES).contains(&leg.minutes)
 }
 
 // A book of which nothing is said but its first line.
@@ -76,15 +64,7 @@ impl Book {
     pub fn empty() -> Book
         ensures { contents result ≡ empty_book }
     {
-        unsaid(
-            0,
-            Fleet {
-                vans: 0,
-                capacity: 0,
-                battery: 0,
-                most: 0,
-            },
-        )
+        unsaid(0, Fleet::default())
     }
 
     /// A book of this many stops, of which nothing is said yet: until a visit or a leg is put, the
@@ -114,7 +94,7 @@ impl Book {
     pub fn visit(&self, stop: usize) -> Option<Visit>
         ensures { result ≡ (if is_stop (contents self.now) stop then Some (visit_at (contents self.now) stop) else None) }
     {
-        if stop < 1 || stop > self.stops {
+        if !(1..=self.stops).contains(&stop) {
             return None;
         }
         Some(self.visits[stop])
@@ -128,10 +108,7 @@ impl Book {
             return None;
         }
         if from == to {
-            return Some(Leg {
-                cost: 0,
-                minutes: 0,
-            });
+            return Some(Leg::default());
         }
         Some(self.legs[from * MOST_PLACES + to])
     }
@@ -141,11 +118,11 @@ impl Book {
         ensures answer { is_ok result ≡ can_put_visit (contents self.old) stop visit }
         ensures book { contents self.new ≡ (if can_put_visit (contents self.old) stop visit then with_visit (contents self.old) stop visit else contents self.old) }
     {
-        let visited = self.takes_visit(stop, visit);
-        if visited {
-            self.visits[stop] = visit;
+        if !self.takes_visit(stop, visit) {
+            return Err(OutOfRange);
         }
-        answer(visited)
+        self.write_visit(stop, visit);
+        Ok(())
     }
 
     /// Says what a leg costs and takes; from a place to itself only (0, 0) is taken. A refusal
@@ -154,33 +131,46 @@ impl Book {
         ensures answer { is_ok result ≡ can_put_leg (contents self.old) from to leg }
         ensures book { contents self.new ≡ (if can_put_leg (contents self.old) from to leg then with_leg (contents self.old) from to leg else contents self.old) }
     {
-        let driven = self.takes_leg(from, to, leg);
-        if driven && from != to {
-            self.legs[from * MOST_PLACES + to] = leg;
+        if !self.takes_leg(from, to, leg) {
+            return Err(OutOfRange);
         }
-        answer(driven)
+        self.write_leg(from, to, leg);
+        Ok(())
     }
 
     // Whether the visit can be put: of a stop of the book, in its ranges.
     fn takes_visit(&self, stop: usize, visit: Visit) -> bool
         ensures { result ≡ can_put_visit (contents self.now) stop visit }
     {
-        1 <= stop && stop <= self.stops && fits_visit(visit)
+        (1..=self.stops).contains(&stop) && fits_visit(visit)
     }
 
     // Whether the leg can be put: between places of the book, in its ranges.
     fn takes_leg(&self, from: usize, to: usize, leg: Leg) -> bool
         ensures { result ≡ can_put_leg (contents self.now) from to leg }
     {
-        if from > self.stops {
-            return false;
+        from <= self.stops
+            && to <= self.stops
+            && if from == to {
+                leg == Leg::default()
+            } else {
+                fits_leg(leg)
+            }
+    }
+
+    fn write_visit(&mut self, stop: usize, visit: Visit)
+        requires { can_put_visit (contents self.old) stop visit ≡ true }
+        ensures { contents self.new ≡ with_visit (contents self.old) stop visit }
+    {
+        self.visits[stop] = visit;
+    }
+
+    fn write_leg(&mut self, from: usize, to: usize, leg: Leg)
+        requires { can_put_leg (contents self.old) from to leg ≡ true }
+        ensures { contents self.new ≡ with_leg (contents self.old) from to leg }
+    {
+        if from != to {
+            self.legs[from * MOST_PLACES + to] = leg;
         }
-        if to > self.stops {
-            return false;
-        }
-        if from == to {
-            return leg.cost == 0 && leg.minutes == 0;
-        }
-        fits_leg(leg)
     }
 }

@@ -1,7 +1,7 @@
 //! The parts of a book.
 
 /// What all routes of a book share.
-#[derive(Clone, Copy)]
+#[derive(Clone, Copy, Default, PartialEq, Eq, Debug)]
 pub struct Fleet {
     /// 1 to 60
     pub vans: u8,
@@ -14,7 +14,7 @@ pub struct Fleet {
 }
 
 /// A stop: a window of minutes for the arrival, its load, and whether it has a charger.
-#[derive(Clone, Copy)]
+#[derive(Clone, Copy, Default, PartialEq, Eq, Debug)]
 pub struct Visit {
     /// at most `closes`
     pub opens: u16,
@@ -26,7 +26,7 @@ pub struct Visit {
 }
 
 /// The way from one place to another.
-#[derive(Clone, Copy)]
+#[derive(Clone, Copy, Default, PartialEq, Eq, Debug)]
 pub struct Leg {
     /// in mils, 0 to 2^30
     pub cost: u32,

@@ -1,13 +1,12 @@
 -- The sum of the duals, and its size. Assumes nothing.
-use Rattle.std.proofs.Common.{◌≡◌, ℕ, zero, suc, ◌-◌, ◌*◌, ◌<◌, ◌≤◌, List, ℤ, ◌+ℤ◌, nat_abs, ap, arith}
+use Rattle.std.proofs.Common.{◌≡◌, ℕ, zero, suc, ◌+◌, ◌*◌, ◌≤◌, List, ℤ, ◌+ℤ◌, nat_abs, refl, arith, add-one}
 use Rattle.std.proofs.lemmas.Int.{ints}
 use Rattle.tier.specs.Sums.{sum_to}
 use Rattle.duals.specs.Duals.{DualsInRange, most_dual, sum_of_duals}
 
 -- one stop more
-pub sum_more : (f : ℕ → ℤ) (k : ℕ) → 0 < k → sum_to f k ≡ sum_to f (k - 1) +ℤ f k
-sum_more f zero h = absurd (omega arith)
-sum_more f (suc n) h = ap (λ z. sum_to f z +ℤ f (suc n)) (let e : n ≡ suc n - 1 = omega arith in e)
+pub sum_more : (f : ℕ → ℤ) (k : ℕ) → sum_to f (k + 1) ≡ sum_to f k +ℤ f (k + 1)
+sum_more f k = simp add-one refl
 
 pub sum_small : (duals : List ℤ) (n : ℕ) → DualsInRange duals → nat_abs (sum_of_duals duals n) ≤ n * most_dual
 sum_small duals zero h = omega arith

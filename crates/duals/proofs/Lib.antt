@@ -1,5 +1,4 @@
 pub mod Credits
 pub mod Plans
 pub mod Legs
-pub mod Sets
 pub mod Lawful

@@ -33,27 +33,24 @@ impl Duals {
     pub fn dual(&self, stop: usize) -> i64
         ensures { result ≡ dual_of self.now.amounts stop }
     {
-        if stop < self.amounts.len() {
-            self.amounts[stop]
-        } else {
-            0
-        }
+        self.amounts.get(stop).copied().unwrap_or(0)
     }
 
     /// What a leg to this stop is charged: its cost less the dual.
     pub fn charge(&self, cost: u32, to: usize) -> i64
         ensures { result ≡ pos cost -ℤ dual_of self.now.amounts to }
     {
-        cost as i64 - self.dual(to)
+        i64::from(cost) - self.dual(to)
     }
 
     /// The sum of the duals.
     pub fn credit(&self) -> i64
         ensures { result ≡ sum_of_duals self.now.amounts self.now.stops }
     {
+        // A loop: that each partial sum fits a word is its invariant.
         let mut sum = 0i64;
-        for stop in 1..self.stops + 1 {
-            sum += self.dual(stop);
+        for dual in &self.amounts[1..=self.stops] {
+            sum += *dual;
         }
         sum
     }
@@ -66,10 +63,10 @@ impl Duals {
         if tier != 1 {
             return Err(Refusal::NoSuchTier);
         }
-        if index < 1 || index > self.stops {
+        if !(1..=self.stops).contains(&index) {
             return Err(Refusal::NoSuchIndex);
         }
-        if amount < -MOST_DUAL || amount > MOST_DUAL {
+        if !(-MOST_DUAL..=MOST_DUAL).contains(&amount) {
             return Err(Refusal::BadAmount);
         }
         self.amounts[index] = amount;

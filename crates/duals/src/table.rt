@@ -9,6 +9,7 @@ use stops::MOST_PLACES;
 #[derive(Drop)]
 pub struct Duals {
     pub(crate) stops: usize,
+    // all places that a stop can have: the definitions give a table of 61, whatever the number of stops
     pub(crate) amounts: [i64; MOST_PLACES],
     ghost few: { stops ≤ most_stops },
     ghost ranged: { DualsInRange amounts },

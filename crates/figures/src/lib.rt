@@ -9,6 +9,8 @@ ghost use Rattle.figures.specs.Figures.{figures, Worked};
 pub use worked::WorkedFigures;
 
 #[cfg(test)]
+mod road;
+#[cfg(test)]
 mod rounds;
 #[cfg(test)]
 mod towns;

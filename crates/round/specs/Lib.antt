@@ -1,3 +1,4 @@
 pub mod Round
 pub mod Laws
 pub mod Arrivals
+pub mod Told

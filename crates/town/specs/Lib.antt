@@ -1,2 +1,3 @@
 pub mod Town
 pub mod Laws
+pub mod Told

@@ -1,6 +1,6 @@
-use Rattle.std.proofs.Common.{◌≡◌, ◌-◌}
+use Rattle.std.proofs.Common.{◌≡◌}
 use Rattle.duals.specs.Duals.{sum_of_duals}
 use Rattle.duals.proofs.table.Duals.credit.Given as goal
 
-abbrev pub invariant-loop-stop : goal.invariant-loop-stop
-invariant-loop-stop l = l.sum ≡ sum_of_duals l.self.amounts (l.stop - 1)
+abbrev pub invariant-loop-dual : goal.invariant-loop-dual
+invariant-loop-dual l = l.sum ≡ sum_of_duals l.self.amounts l.dual-index
