@@ -1,4 +1,6 @@
 //! Rounds made up by a small generator, the same ones every time.
+ghost use Rattle.std.specs.Prelude.{◌≤◌};
+
 use book::{Book, Fleet, Leg, OutOfRange, Visit};
 
 /// A linear congruential generator: x becomes 1,664,525 x + 1,013,904,223 modulo 2^32, and the upper
@@ -14,7 +16,9 @@ impl Draws {
     }
 
     /// A number from 0 to `below` less one; 0 if `below` is 0.
-    pub(crate) fn next(&mut self, below: u32) -> u32 {
+    pub(crate) fn next(&mut self, below: u32) -> u32
+        ensures { result ≤ below }
+    {
         self.seed = self.seed.wrapping_mul(1664525).wrapping_add(1013904223);
         if below == 0 {
             return 0;
@@ -38,8 +42,8 @@ pub(crate) fn distance(a: Point, b: Point) -> u32 {
 /// The depot in the middle, and the stops anywhere.
 pub(crate) fn points(draws: &mut Draws) -> [Point; 61] {
     let mut points = [Point { x: 50, y: 50 }; 61];
-    for i in 1..61 {
-        points[i] = Point {
+    for point in &mut points[1..] {
+        *point = Point {
             x: draws.next(100),
             y: draws.next(100),
         };
@@ -49,11 +53,11 @@ pub(crate) fn points(draws: &mut Draws) -> [Point; 61] {
 
 // A window of two hours that opens between minute 60 and minute 1,080, and a load of 5 to 24.
 fn visit(draws: &mut Draws) -> Visit {
-    let opens = draws.next(1020).saturating_add(60).min(1320) as u16;
-    let load = draws.next(20).saturating_add(5).min(100) as u16;
+    let opens = (draws.next(1020) + 60) as u16;
+    let load = (draws.next(20) + 5) as u16;
     Visit {
         opens,
-        closes: opens.saturating_add(120).min(1440),
+        closes: opens + 120,
         load,
         charger: false,
     }
@@ -63,34 +67,33 @@ fn visit(draws: &mut Draws) -> Visit {
 fn leg(a: Point, b: Point) -> Leg {
     let length = distance(a, b).min(1000);
     Leg {
-        cost: length.saturating_mul(10).min(10000),
-        minutes: length.saturating_add(10).min(1440) as u16,
+        cost: length * 10,
+        minutes: (length + 10) as u16,
     }
 }
 
-/// A round of so many stops: vans that carry 100, windows of two hours, legs by distance.
-pub(crate) fn round(
-    stops: usize,
-    points: &[Point; 61],
-    draws: &mut Draws,
-) -> Result<Book, OutOfRange> {
+/// A round over these points, the depot first: vans that carry 100, windows of two hours, legs by
+/// distance.
+pub(crate) fn round(points: &[Point], draws: &mut Draws) -> Result<Book, OutOfRange> {
     let fleet = Fleet {
         vans: 10,
         capacity: 100,
         battery: 1440,
         most: 100,
     };
+    let stops = points.len().saturating_sub(1);
     let mut book = Book::new(stops, fleet)?;
+    // as many draws whatever the number of stops
     for stop in 1..61 {
         let visit = visit(draws);
         if stop <= stops {
             book.put_visit(stop, visit)?;
         }
     }
-    for from in 0..61 {
-        for to in 0..61 {
-            if from != to && from <= stops && to <= stops {
-                book.put_leg(from, to, leg(points[from], points[to]))?;
+    for (from, a) in points.iter().enumerate() {
+        for (to, b) in points.iter().enumerate() {
+            if from != to {
+                book.put_leg(from, to, leg(*a, *b))?;
             }
         }
     }

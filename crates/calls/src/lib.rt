@@ -4,13 +4,17 @@
 //! promised of the answers, whatever the calls.
 #![tactic(auto)]
 
+mod refusal;
+
 ghost use Rattle.std.specs.Prelude.{◌≡◌};
 ghost use Rattle.calls.specs.Calls.{early_refusal};
 ghost use Rattle.calls.specs.Promises.{Promises};
+ghost use Rattle.calls.specs.Refusals.{refusal as «refusal_of»};
 
+pub use refusal::PriceRefusal;
 use tier::{MOST_TIERS, Tier};
 
-/// A price takes this many vans at most.
+/// A price takes this many vans at most, whatever book the pile has.
 pub const MOST_VANS: usize = 60;
 
 /// A price takes this many places for labels at most.
@@ -19,31 +23,30 @@ pub const MOST_LABELS: usize = 262144;
 /// The row for a route must hold this many numbers.
 pub const ROW_LENGTH: usize = 1440;
 
-/// The number by which a price is refused before any label is made, or `None`: 1 over four tiers,
-/// 2 vans outside 1 to 60, 3 no stops or places 0 or over 262,144, 4 a row under 1,440 numbers.
+/// The refusals of a price before any label is made, by the pile, the vans, the places of the store and
+/// the numbers of the row.
 ///
 /// The promises of a sitting on this pile stand here, for every number of vans and all calls.
-pub fn refuse_early<T: Tier>(pile: &T, vans: usize, places: usize, row: usize) -> Option<u8>
-    ensures refusal { result ≡ early_refusal (T.meaning.answers (T.value pile.now)) vans places row }
+pub fn refuse_early<T: Tier>(
+    pile: &T,
+    vans: usize,
+    places: usize,
+    row: usize,
+) -> Result<(), PriceRefusal>
+    ensures refusal { «refusal_of» result ≡ early_refusal (T.meaning.answers (T.value pile.now)) vans places row }
     ensures promises { Promises T.meaning (T.value pile.now) }
 {
-    first_refusal(pile, vans, places, row)
-}
-
-fn first_refusal<T: Tier>(pile: &T, vans: usize, places: usize, row: usize) -> Option<u8>
-    ensures { result ≡ early_refusal (T.meaning.answers (T.value pile.now)) vans places row }
-{
     if pile.tiers() > MOST_TIERS {
-        return Some(1);
+        return Err(PriceRefusal::TooManyTiers);
     }
-    if vans == 0 || vans > MOST_VANS {
-        return Some(2);
+    if !(1..=MOST_VANS).contains(&vans) {
+        return Err(PriceRefusal::BadVans);
     }
-    if pile.stops() == 0 || places == 0 || places > MOST_LABELS {
-        return Some(3);
+    if pile.stops() == 0 || !(1..=MOST_LABELS).contains(&places) {
+        return Err(PriceRefusal::BadPlaces);
     }
     if row < ROW_LENGTH {
-        return Some(4);
+        return Err(PriceRefusal::ShortRow);
     }
-    None
+    Ok(())
 }

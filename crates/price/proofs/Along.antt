@@ -1,6 +1,8 @@
 -- Labelling on the store, turn by turn, beside labelling as defined. Assumes nothing.
-use Rattle.std.proofs.Common.{◌≡◌, ℕ, zero, suc, ◌+◌, ◌*◌, ◌^◌, ◌<◌, ◌≤◌, Bool, true, false, cond, List, [], ◌∷◌, length, get_or, nat_abs, Some, None, count_by, Option, sym, refl, ap, ◌∙◌, subst, inr, mul-le-mul_right, mul-le-mul_left, arith}
+use Rattle.std.proofs.Common.{◌≡◌, ℕ, zero, suc, ◌+◌, ◌-◌, ◌*◌, ◌^◌, ◌<◌, ◌≤◌, Bool, true, false, cond, List, [], ◌∷◌, length, get_or, nat_abs, Some, None, count_by, Option, sym, refl, ap, ◌∙◌, subst, inr, mul-le-mul_right, mul-le-mul_left, arith}
 use Rattle.std.proofs.lemmas.List.{length_push}
+use Rattle.std.proofs.lemmas.List.Sums.{count_by-le-length}
+use Rattle.tier.specs.declared.Tier.{Ghosts}
 use Rattle.tier.specs.Answers.{Answers}
 use Rattle.tier.specs.Routes.{and_then}
 use Rattle.tier.specs.Laws.{SizeLaws, KeyLaws, most_tiers}
@@ -15,10 +17,13 @@ use Rattle.store.specs.Places.{Stored, First, Picks}
 use Rattle.store.specs.Works.{Beside, Matches, treat_at}
 use Rattle.store.proofs.Weights.{sum_same, sum_ones, sum_none}
 use Rattle.store.proofs.Alike.{turn_alike, done_alike}
+use Rattle.price.specs.declared.desk.Desk.{Desk}
 use Rattle.price.specs.declared.label.Label.{Label as Cell}
 use Rattle.price.specs.declared.progress.Progress.{Progress}
 use Rattle.price.specs.Labels.{blank, view, is_treated, is_waiting, reading, writing}
-use Rattle.price.specs.Progress.{work, Few, Sound}
+use Rattle.price.specs.Progress.{work, outcome, Few, Sound}
+use Rattle.price.specs.Desks.{answers, hand, so_far, Comes}
+use Rattle.price.proofs.Steps.{same_answers}
 
 -- how many places hold treated labels
 abbrev pub treated_in : {S : Type 0} → List (Cell S) → ℕ
@@ -141,3 +146,52 @@ module _ {S : Type 0} (m : Answers S) (places : ℕ) where
                 },
                 omega arith,
               )
+
+-- AT A DESK
+
+module _ {X S : Type 0} {t : Ghosts X S} (first : Desk X S t) where
+  abbrev places : ℕ
+  places = length first.store.now
+
+  -- labelling that began at this desk
+  pub record Under_way (now : Desk X S t) : Type 0 where
+    pub tier : now.tier ≡ first.tier
+    pub store : now.store.ghost_name ≡ first.store.ghost_name
+    pub along : Along (answers first) places now.store.now now.progress
+
+  pub starts : Beside (hand first) (answers first) places None (so_far first) (begin (answers first)) → Under_way first
+  starts b = record { tier = refl; store = refl; along = begins (answers first) places first.store.now first.progress b }
+
+  module _ (now : Desk X S t) (u : Under_way now) where
+    same : answers now ≡ answers first
+    same = same_answers now first u.tier
+
+    picked : (r : Option ℕ) → Picks (reading (answers now).start) (λ l. (answers now).key l.state) now.store.now r → Picks (reading (answers first).start) (λ l. (answers first).key l.state) now.store.now r
+    picked r = subst (λ (m : Answers S). Picks (reading m.start) (λ l. m.key l.state) now.store.now r) same
+
+    pub ended : Picks (reading (answers now).start) (λ l. (answers now).key l.state) now.store.now None → Matches (hand first) (answers first) places None (Some (so_far now)) (labelling (answers first) (by_key (answers first)) places)
+    ended h = done (answers first) places now.store.now now.progress u.along (picked None h)
+
+    pub few_yet : 0 < places → (answers first).stops ≤ 60 → Few (2 ^ 32) now.progress
+    few_yet some stops = few (answers first) places now.store.now now.progress u.along some first.short stops
+
+    module _ (i : ℕ) (h : Picks (reading (answers now).start) (λ l. (answers now).key l.state) now.store.now (Some i)) where
+      pub sound_yet : (answers first).tiers ≤ most_tiers → SizeLaws (answers first) → KeyLaws (answers first) → Sound (answers now) (get_or now.store.now i (blank (answers now).start))
+      sound_yet low sizes keys = subst (λ (m : Answers S). Sound m (get_or now.store.now i (blank m.start))) (sym same) (sound (answers first) places now.store.now now.progress u.along i (picked (Some i) h) low sizes keys)
+
+      module _ (after : Desk X S t) (some : 0 < places) where
+        turn : (ok : Bool) → Comes now after ok (treat_at (hand now) (answers now) i (so_far now)) → outcome ok after.store.now after.progress ≡ treat_at (hand first) (answers first) i (so_far now)
+        turn ok c = subst (λ (m : Answers S). outcome ok after.store.now after.progress ≡ treat_at (writing m.start) m i (so_far now)) same c.is
+
+        pub overfull : (ok : Bool) → ok ≡ false → Comes now after false (treat_at (hand now) (answers now) i (so_far now)) → Matches (hand first) (answers first) places None (outcome ok after.store.now after.progress) (labelling (answers first) (by_key (answers first)) places)
+        overfull ok e c = subst (λ b. Matches (hand first) (answers first) places None (outcome b after.store.now after.progress) (labelling (answers first) (by_key (answers first)) places)) (sym e) (crowded (answers first) places now.store.now now.progress u.along i (picked (Some i) h) some (turn false c))
+
+        -- one turn further, and more labels are treated
+        pub goes_along : Comes now after true (treat_at (hand now) (answers now) i (so_far now)) → Under_way after × (length after.store.now - treated_in after.store.now < length now.store.now - treated_in now.store.now)
+        goes_along c =
+            let f = further (answers first) places now.store.now now.progress u.along i (picked (Some i) h) after.store.now after.progress some (turn true c) in
+            let a = f.0.beside.long in
+            let b = u.along.beside.long in
+            let more = f.1 in
+            let n = count_by-le-length (λ c. is_treated c.status) after.store.now in
+            (record { tier = c.tier ∙ u.tier; store = c.store ∙ u.store; along = f.0 }, omega arith)

@@ -1,67 +1,63 @@
 -- The ways out of a price that was not refused early. Assumes nothing.
-use Rattle.std.proofs.Common.{◌≡◌, ℕ, List, length, replicate, Some, None, Ok, Err, Option, sym, refl, ap, ◌∙◌, subst}
+use Rattle.std.proofs.Common.{◌≡◌, ℕ, List, length, Some, None, Ok, Option, sym, refl, ap, ◌∙◌, subst, Bor}
+use Rattle.tier.specs.declared.Tier.{Ghosts}
 use Rattle.tier.specs.Answers.{Answers}
 use Rattle.tier.proofs.Options.{none_some}
 use Rattle.labelling.specs.Labelling.{Table, by_key, labelling}
 use Rattle.labelling.proofs.Ends.{labelling_passed, ends}
-use Rattle.calls.specs.Calls.{call_refused, early_refusal, labelled, unless_refused, priced}
+use Rattle.store.specs.Works.{Matches}
+use Rattle.calls.specs.Calls.{early_refusal, found, labelled, unless_refused, priced}
 use Rattle.calls.proofs.Floors.{Allowed, allowed_or}
 use Rattle.price.specs.declared.answer.Priced.{Priced}
+use Rattle.price.specs.declared.desk.Desk.{Desk}
 use Rattle.price.specs.declared.label.Label.{Label as Cell}
 use Rattle.price.specs.declared.progress.Progress.{Progress}
-use Rattle.price.specs.declared.refusal.PriceRefusal.{PriceRefusal}
-use Rattle.price.specs.Labels.{blank}
-use Rattle.price.specs.Prices.{number, told, stops_told, stops_in, row_after, StoreAfter, Labelled, ToldFrom, Tells}
+use Rattle.price.specs.Labels.{writing}
+use Rattle.price.specs.Desks.{answers, hand, so_far}
+use Rattle.price.specs.Prices.{stops_in, row_after, StoreAfter, IsPriced, Labelled, ToldFrom, Tells}
 use Rattle.price.proofs.Files.{files}
 
-module _ {S : Type 0} (m : Answers S) (vans places row : ℕ) (e : None ≡ early_refusal m vans places row) where
-  pub allowed : Allowed m vans places row
-  allowed = allowed_or m vans places row (λ o. None ≡ o → Allowed m vans places row) (λ n q. absurd (none_some q)) (λ a _. a) e
+-- Labelling went well from a desk at the tier r.
+module _ {X S : Type 0} (t : Ghosts X S) (r : Bor X) (places : ℕ) where
+  abbrev m : Answers S
+  m = t.meaning.answers (t.value r.now)
 
-  -- what is answered by what labelling comes to
-  by_labelling : (o : Option (Table S)) → labelling m (by_key m) places ≡ o → priced m (by_key m) vans places row ≡ labelled m vans o
-  by_labelling o q = ap (λ r. unless_refused r (labelled m vans (labelling m (by_key m) places))) (sym e) ∙ ap (labelled m vans) q
+  -- this is the store then
+  pub labelled_ok : (first last : Desk X S t) (after : List (Cell S)) → first.tier ≡ r → length first.store.now ≡ places → after ≡ last.store.now → Matches (hand first) (answers first) (length first.store.now) None (Some (so_far last)) (labelling (answers first) (by_key (answers first)) (length first.store.now)) → Labelled m places (labelling m (by_key m) places) (Ok last.progress) after
+  labelled_ok first last after same n e h =
+      subst (Labelled m places (labelling m (by_key m) places) (Ok last.progress)) (sym e) (by (labelling m (by_key m) places)
+      (subst (λ k. Matches (writing m.start) m k None (Some (so_far last)) (labelling m (by_key m) k)) n
+      (subst (λ (m : Answers S). Matches (writing m.start) m (length first.store.now) None (Some (so_far last)) (labelling m (by_key m) (length first.store.now))) (ap (λ r. t.meaning.answers (t.value r.now)) same) h)))
+    where
+      by : (o : Option (Table S)) → Matches (writing m.start) m places None (Some (so_far last)) o → Labelled m places o (Ok last.progress) last.store.now
+      by None h = h
+      by (Some u) h = h
+
+module _ {S : Type 0} (m : Answers S) (vans : ℕ) (before : List (Cell S)) (held : List ℕ) (e : None ≡ early_refusal m vans (length before) (length held)) where
+  abbrev places : ℕ
+  places = length before
+
+  pub allowed : Allowed m vans places (length held)
+  allowed = allowed_or m vans places (length held) (λ o. None ≡ o → Allowed m vans places (length held)) (λ n q. absurd (none_some q)) (λ a _. a) e
 
   -- labelling ended
-  pub told_from : (cells : List (Cell S)) (p : Progress) → Labelled m places (labelling m (by_key m) places) (Ok p) cells → ToldFrom m places cells p
-  told_from cells p h = by (labelling m (by_key m) places) refl h
+  pub told_from : (cells : List (Cell S)) (q : Progress) → Labelled m places (labelling m (by_key m) places) (Ok q) cells → ToldFrom m places cells q
+  told_from cells q h = by (labelling m (by_key m) places) refl h
     where
-      by : (o : Option (Table S)) → labelling m (by_key m) places ≡ o → Labelled m places o (Ok p) cells → ToldFrom m places cells p
-      by None q h = absurd h
-      by (Some t) q h = record { table = t; ends = q; beside = h }
+      by : (o : Option (Table S)) → labelling m (by_key m) places ≡ o → Labelled m places o (Ok q) cells → ToldFrom m places cells q
+      by None z h = absurd h
+      by (Some t) z h = record { table = t; ends = z; beside = h }
 
-  module _ (before cells : List (Cell S)) (p : Progress) (d : ToldFrom m places cells p) (r : Priced) (old new : List ℕ) (tells : Tells m vans places r old new) where
-    pub answer_ok : told r new ≡ priced m (by_key m) vans places row
-    answer_ok = (tells d.table d.ends).0 ∙ sym (by_labelling (Some d.table) d.ends)
-
-    pub stops_ok : stops_told (Ok r) ≡ stops_in (priced m (by_key m) vans places row)
-    stops_ok = (tells d.table d.ends).1 ∙ ap stops_in (sym (by_labelling (Some d.table) d.ends))
-
-    pub row_ok : new ≡ row_after (priced m (by_key m) vans places row) old
-    row_ok = (tells d.table d.ends).2 ∙ ap (λ a. row_after a old) (sym (by_labelling (Some d.table) d.ends))
-
-    pub store_ok : StoreAfter m (early_refusal m vans places row) (labelling m (by_key m) places) before cells
-    store_ok =
-        let f = files m places cells p d.table (labelling_passed m (by_key m) places d.table d.ends) d.beside (ends m (by_key m) places d.table allowed.some_places d.ends) in
-        subst (λ o. StoreAfter m o (labelling m (by_key m) places) before cells) e (subst (λ o. StoreAfter m None o before cells) (sym d.ends) f)
-
-  -- the places did not suffice
-  pub record Full (before cells : List (Cell S)) (old : List ℕ) (x : PriceRefusal) : Type 0 where
-    pub answer : call_refused (number x) ≡ priced m (by_key m) vans places row
-    pub stops : 0 ≡ stops_in (priced m (by_key m) vans places row)
-    pub row_same : old ≡ row_after (priced m (by_key m) vans places row) old
-    pub store : StoreAfter m (early_refusal m vans places row) (labelling m (by_key m) places) before cells
-
-  pub full : (before cells : List (Cell S)) (old : List ℕ) (x : PriceRefusal) → length before ≡ places → Labelled m places (labelling m (by_key m) places) (Err x) cells → Full before cells old x
-  full before cells old x n h = by (labelling m (by_key m) places) refl h
-    where
-      by : (o : Option (Table S)) → labelling m (by_key m) places ≡ o → Labelled m places o (Err x) cells → Full before cells old x
-      by None q h =
-          let said = by_labelling None q in
-          record {
-            answer = ap call_refused h.0 ∙ sym said;
-            stops = ap stops_in (sym said);
-            row_same = ap (λ a. row_after a old) (sym said);
-            store = subst (λ o. StoreAfter m o (labelling m (by_key m) places) before cells) e (subst (λ o. StoreAfter m None o before cells) (sym q) (h.1 ∙ ap (λ n. replicate n (blank m.start)) (sym n)));
-          }
-      by (Some t) q h = absurd h
+  -- and what is told is what price gives
+  pub prices : (cells : List (Cell S)) (q : Progress) → Labelled m places (labelling m (by_key m) places) (Ok q) cells → (p : Priced ℕ) (left : List ℕ) → length cells ≡ places → Tells m vans (length cells) p held left → IsPriced m vans before cells held left (Ok p)
+  prices cells q h p left n tells =
+      let d = told_from cells q h in
+      let s = tells d.table (ap (labelling m (by_key m)) n ∙ d.ends) in
+      let is : priced m (by_key m) vans places (length held) ≡ found m vans d.table d.table.best = sym (ap (λ o. unless_refused o (labelled m vans (labelling m (by_key m) places))) e) ∙ ap (labelled m vans) d.ends in
+      let f = files m places cells q d.table (labelling_passed m (by_key m) places d.table d.ends) d.beside (ends m (by_key m) places d.table allowed.some_places d.ends) in
+      record {
+        answer = s.0 ∙ sym is;
+        stops = s.1 ∙ sym (ap stops_in is);
+        row = s.2 ∙ sym (ap (λ a. row_after a held) is);
+        store = subst (λ o. StoreAfter m o (labelling m (by_key m) places) before cells) e (subst (λ o. StoreAfter m None o before cells) (sym d.ends) f);
+      }

@@ -1,7 +1,7 @@
 -- The ways out of an offer. Assumes nothing.
-use Rattle.std.proofs.Common.{◌≡◌, ℕ, ◌+◌, ◌-◌, ◌<◌, ◌≤◌, false, cond, List, [], ◌∷◌, length, drop, set, Some, None, count_by, Option, sym, refl, ap, ◌∙◌, subst, arith}
+use Rattle.std.proofs.Common.{◌≡◌, ℕ, ◌+◌, ◌-◌, ◌≤◌, false, cond, Bool, List, [], ◌∷◌, map, length, drop, set, Some, None, count_by, Option, sym, refl, ap, ◌∙◌, subst, arith}
 use Rattle.std.specs.List.{AllByRecursion}
-use Rattle.std.proofs.lemmas.List.{length-set, drop-set-lt, drop-drop}
+use Rattle.std.proofs.lemmas.List.{length-map, drop-drop}
 use Rattle.std.proofs.ByRecursion.{All-drop}
 use Rattle.tier.specs.Answers.{Answers}
 use Rattle.store.specs.Works.{Work, first_blank, covered_at, falls, strike_at, turn_away_at, keep_at, offer_at}
@@ -10,23 +10,24 @@ use Rattle.price.specs.declared.progress.Progress.{Progress}
 use Rattle.price.specs.Labels.{blank, is_live, writing}
 use Rattle.price.specs.Places.{Unused, first_free}
 use Rattle.price.specs.Progress.{work}
+use Rattle.price.proofs.Maps.{blanked, rest_blank}
 
 -- WHICH PLACES ARE USED
 
 module _ {S : Type 0} (start : S) (used : ℕ) (cells : List (Cell S)) (u : Unused start used cells) where
-  -- a used place is written
-  pub unused_put : (place : ℕ) (c : Cell S) → place < used → Unused start used (set cells place c)
-  unused_put place c h =
-      let z = length-set cells place c in
-      let w = u.within in
-      record { within = omega arith; rest = subst (AllByRecursion (λ c. c ≡ blank start)) (sym (drop-set-lt used cells place c h)) u.rest }
-
   -- more places count as used
   pub unused_wider : (more : ℕ) → used ≤ more → more ≤ length cells → Unused start more cells
   unused_wider more h k = record {
     within = k;
     rest = subst (AllByRecursion (λ c. c ≡ blank start)) (drop-drop (more - used) used cells ∙ ap (λ i. drop i cells) (omega arith)) (All-drop (λ (c : Cell S). c ≡ blank start) (more - used) (drop used cells) u.rest);
   }
+
+  -- labels are struck
+  pub unused_struck : (p : Cell S → Bool) → p (blank start) ≡ false → Unused start used (map (blanked p (blank start)) cells)
+  unused_struck p none =
+      let n = length-map cells (blanked p (blank start)) in
+      let w = u.within in
+      record { within = omega arith; rest = rest_blank p (blank start) cells used none u.rest }
 
 -- THE WAYS OUT
 

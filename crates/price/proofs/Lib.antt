@@ -1,6 +1,6 @@
-pub mod Scans
 pub mod Maps
 pub mod Picks
+pub mod Scans
 pub mod Keeps
 pub mod Goes
 pub mod Steps

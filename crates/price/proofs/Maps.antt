@@ -1,7 +1,7 @@
 -- A loop that blanks each element that passes a test, and counts them. Assumes nothing.
 use Rattle.std.proofs.Common.{◌≡◌, ℕ, ◌+◌, ◌<◌, ◌≤◌, Bool, true, false, cond, List, [], ◌∷◌, ◌++◌, map, length, get_or, take, drop, set, count_by, sym, refl, ap, ◌∙◌, subst, arith}
 use Rattle.std.specs.List.{AllByRecursion}
-use Rattle.std.proofs.lemmas.List.{length-map, length-take-le, get_or-append_right, get_or-drop, set-get_or, take-append-drop, map-append, drop-map}
+use Rattle.std.proofs.lemmas.List.{length-map, length-take-le, get_or-append_right, get_or-drop, take-append-drop, map-append, drop-map}
 use Rattle.std.proofs.lemmas.List.Sums.{sum_by-cons, sum_by-append, count_by_more_yes, count_by_more_no}
 use Rattle.std.proofs.lemmas.List.Edits.{map_over_more}
 
@@ -28,32 +28,31 @@ module _ {X : Type 0} (p : X → Bool) (blank : X) (xs : List X) where
       let s : blank ≡ blanked p blank x = ap (λ b. cond b blank x) t in
       (z ∙ ap (set ys i) s ∙ map_over_more (blanked p blank) xs ys i x h e r, omega (arith, count_by_more_yes p xs i x h q), omega arith)
 
-  pub blanking_no : (ys zs : List X) (n m i : ℕ) (x : X) → i < length xs → Blanking ys n i → x ≡ get_or ys i x → false ≡ p (get_or ys i x) → zs ≡ ys → m ≡ n → Blanking zs m (i + 1)
+  pub blanking_no : (ys zs : List X) (n m i : ℕ) (x : X) → i < length xs → Blanking ys n i → x ≡ get_or ys i x → false ≡ p (get_or ys i x) → zs ≡ set ys i (get_or ys i x) → m ≡ n → Blanking zs m (i + 1)
   blanking_no ys zs n m i x h (e, c, b) r u z k =
       let t : false ≡ p x = u ∙ ap p (sym r) in
       let q : p (get_or xs i x) ≡ false = ap p (sym (unread ys i x h e r)) ∙ sym t in
       let s : x ≡ blanked p blank x = ap (λ b. cond b blank x) t in
-      (z ∙ sym (set-get_or ys i x) ∙ ap (set ys i) (sym r ∙ s) ∙ map_over_more (blanked p blank) xs ys i x h e r, omega (arith, count_by_more_no p xs i x h q), omega arith)
+      (z ∙ ap (set ys i) (sym r ∙ s) ∙ map_over_more (blanked p blank) xs ys i x h e r, omega (arith, count_by_more_no p xs i x h q), omega arith)
 
   blanks_stay : p blank ≡ false → (zs : List X) → AllByRecursion (λ x. x ≡ blank) zs → map (blanked p blank) zs ≡ zs
   blanks_stay none [] h = refl
   blanks_stay none (z ∷ zs) h = ap (λ y. y ∷ map (blanked p blank) zs) (ap (λ x. cond (p x) blank x) h.0 ∙ ap (λ b. cond b blank blank) none ∙ sym h.0) ∙ ap (λ l. z ∷ l) (blanks_stay none zs h.1)
 
-  pub rest_blank : (used : ℕ) → p blank ≡ false → AllByRecursion (λ x. x ≡ blank) (drop used xs) → AllByRecursion (λ x. x ≡ blank) (drop used (map (blanked p blank) xs))
-  rest_blank used none rest = subst (AllByRecursion (λ x. x ≡ blank)) (sym (drop-map (blanked p blank) used xs ∙ blanks_stay none (drop used xs) rest)) rest
+  none_there : p blank ≡ false → (zs : List X) → AllByRecursion (λ x. x ≡ blank) zs → count_by p zs ≡ 0
+  none_there none [] h = refl
+  none_there none (z ∷ zs) h = let a = sum_by-cons (λ x. cond (p x) 1 0) z zs in let b : ◌≡◌ {A = ℕ} (cond (p z) 1 0) 0 = ap (λ x. cond (p x) 1 0) h.0 ∙ ap (λ b. cond b 1 0) none in let k = none_there none zs h.1 in omega arith
 
-  -- where the rest is blank, the first `used` are all
-  pub blanking_rest : (used : ℕ) (ys : List X) (n i : ℕ) → used ≤ i → i ≤ used → used ≤ length xs → AllByRecursion (λ x. x ≡ blank) (drop used xs) → p blank ≡ false → Blanking ys n i → (ys ≡ map (blanked p blank) xs) × (n ≡ count_by p xs)
-  blanking_rest used ys n i h k w rest none (e, c, b) =
-      let same : i ≡ used = omega arith in
-      let z : map (blanked p blank) (drop used xs) ≡ drop used xs = blanks_stay none (drop used xs) rest in
-      let a : ys ≡ map (blanked p blank) (take used xs) ++ drop used xs = e ∙ ap (λ j. map (blanked p blank) (take j xs) ++ drop j xs) same in
-      let f : map (blanked p blank) (take used xs) ++ map (blanked p blank) (drop used xs) ≡ map (blanked p blank) xs = sym (map-append (blanked p blank) (take used xs) (drop used xs)) ∙ ap (map (blanked p blank)) (take-append-drop used xs) in
-      let g : count_by p xs ≡ count_by p (take used xs) + count_by p (drop used xs) = ap (count_by p) (sym (take-append-drop used xs)) ∙ sum_by-append (λ x. cond (p x) 1 0) (take used xs) (drop used xs) in
-      let o = none_there (drop used xs) rest in
-      let d : n ≡ count_by p (take used xs) = c ∙ ap (λ j. count_by p (take j xs)) same in
-      (a ∙ ap (λ l. map (blanked p blank) (take used xs) ++ l) (sym z) ∙ f, omega arith)
-    where
-      none_there : (zs : List X) → AllByRecursion (λ x. x ≡ blank) zs → count_by p zs ≡ 0
-      none_there [] h = refl
-      none_there (z ∷ zs) h = let a = sum_by-cons (λ x. cond (p x) 1 0) z zs in let b : ◌≡◌ {A = ℕ} (cond (p z) 1 0) 0 = ap (λ x. cond (p x) 1 0) h.0 ∙ ap (λ b. cond b 1 0) none in let k = none_there zs h.1 in omega arith
+  module _ (used : ℕ) (none : p blank ≡ false) (rest : AllByRecursion (λ x. x ≡ blank) (drop used xs)) where
+    -- where the rest is blank, the first `used` are all
+    pub blanking_rest : map (blanked p blank) (take used xs) ++ drop used xs ≡ map (blanked p blank) xs
+    blanking_rest = ap (λ l. map (blanked p blank) (take used xs) ++ l) (sym (blanks_stay none (drop used xs) rest)) ∙ sym (map-append (blanked p blank) (take used xs) (drop used xs)) ∙ ap (map (blanked p blank)) (take-append-drop used xs)
+
+    pub counting_rest : count_by p (take used xs) ≡ count_by p xs
+    counting_rest =
+        let g : count_by p xs ≡ count_by p (take used xs) + count_by p (drop used xs) = ap (count_by p) (sym (take-append-drop used xs)) ∙ sum_by-append (λ x. cond (p x) 1 0) (take used xs) (drop used xs) in
+        let o = none_there none (drop used xs) rest in
+        omega arith
+
+    pub rest_blank : AllByRecursion (λ x. x ≡ blank) (drop used (map (blanked p blank) xs))
+    rest_blank = subst (AllByRecursion (λ x. x ≡ blank)) (sym (drop-map (blanked p blank) used xs ∙ blanks_stay none (drop used xs) rest)) rest

@@ -9,7 +9,7 @@ use Rattle.labelling.specs.Moments.{Passed}
 use Rattle.labelling.proofs.Ends.{labelling_passed}
 use Rattle.labelling.proofs.Small.{stays_small}
 use Rattle.store.specs.Works.{BestAt, Holds}
-use Rattle.calls.specs.Calls.{lowest, no_route, floor, found, counts as table_counts}
+use Rattle.calls.specs.Calls.{lowest, floor, found, counts as table_counts}
 use Rattle.price.specs.declared.label.Label.{Label as Cell}
 use Rattle.price.specs.declared.progress.Progress.{Progress}
 use Rattle.price.specs.Labels.{writing}
@@ -42,13 +42,6 @@ module _ {S : Type 0} (m : Answers S) (places : ℕ) (cells : List (Cell S)) (p 
       by None q h = absurd h
       by (Some f) q h = record { best = f; is = q; cost_is = h.0; holds = h.1 }
 
-  pub none_best : p.best ≡ None → t.best ≡ None
-  none_best e = by t.best refl (subst (λ o. BestAt (writing m.start) m cells o t.best) e d.beside.best)
-    where
-      by : (o : Option (Finished S)) → t.best ≡ o → BestAt (writing m.start) m cells None o → t.best ≡ None
-      by None q h = q
-      by (Some f) q h = absurd h
-
   counted : counts p.counts ≡ table_counts t
   counted = λ j. record { kept = d.beside.kept j; struck = d.beside.struck j; turned = d.beside.turned j }
 
@@ -75,8 +68,3 @@ module _ {S : Type 0} (m : Answers S) (places : ℕ) (cells : List (Cell S)) (p 
           n ∙ ap length way ∙ sym (ap stops_in said),
           r ∙ ap (λ w. w ++ replicate (length before - length w) 0) way ∙ sym (ap (λ a. row_after a before) said),
         )
-
-  pub tells_none : (vans : ℕ) (before after : List ℕ) → t.best ≡ None → after ≡ replicate (length before) 0 → (no_route (counts p.counts) ≡ found m vans t t.best) × (0 ≡ stops_in (found m vans t t.best)) × (after ≡ row_after (found m vans t t.best) before)
-  tells_none vans before after e r =
-      let said : found m vans t t.best ≡ no_route (table_counts t) = ap (found m vans t) e in
-      (ap no_route counted ∙ sym said, sym (ap stops_in said), r ∙ sym (ap (λ a. row_after a before) said))

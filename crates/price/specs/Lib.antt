@@ -1,6 +1,6 @@
 pub mod Labels
 pub mod Places
-pub mod Choices
 pub mod Progress
+pub mod Desks
 pub mod Routes
 pub mod Prices

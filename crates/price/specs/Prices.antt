@@ -4,49 +4,44 @@ use Rattle.tier.specs.Answers.{Answers}
 use Rattle.labelling.specs.Members.{In}
 use Rattle.labelling.specs.Labelling.{Label, Table, by_key, labelling}
 use Rattle.store.specs.Works.{Beside}
-use Rattle.calls.specs.Calls.{Counts, Answer, call_taken, call_refused, lowest, no_route, found}
+use Rattle.calls.specs.declared.refusal.PriceRefusal.{PriceRefusal}
+use Rattle.calls.specs.Calls.{Counts, Answer, call_taken, call_refused, lowest, no_route, early_refusal, found, priced}
+use Rattle.calls.specs.Refusals.{number}
+use Rattle.price.specs.declared.answer.Lowest.{Lowest}
 use Rattle.price.specs.declared.answer.Priced.{Priced}
-use Rattle.price.specs.declared.answer.Priced.TheVariants.{Lowest, NoRoute}
 use Rattle.price.specs.declared.label.Label.{Label as Cell}
 use Rattle.price.specs.declared.label.Parent.{Parent}
 use Rattle.price.specs.declared.label.Status.TheVariants.{Treated}
 use Rattle.price.specs.declared.progress.Counts.{Counts as Counted}
-use Rattle.price.specs.declared.refusal.PriceRefusal.{PriceRefusal}
-use Rattle.price.specs.declared.refusal.PriceRefusal.TheVariants.{TooManyTiers, BadVans, BadPlaces, ShortRow, StoreFull}
 use Rattle.price.specs.declared.progress.Progress.{Progress}
 use Rattle.price.specs.Labels.{blank, writing}
 use Rattle.price.specs.Progress.{work}
 
 -- THE ANSWER
 
-abbrev pub number : PriceRefusal → ℕ
-number TooManyTiers = 1
-number BadVans = 2
-number BadPlaces = 3
-number ShortRow = 4
-number StoreFull = 5
-
 abbrev pub counts : Counted → Counts
 counts c = record { kept = c.kept; struck = c.struck; turned = c.turned }
 
--- the route is what the first numbers of the row are then
-abbrev pub told : Priced → List ℕ → Answer
-told (Lowest b) row = lowest b.cost (take b.stops row) b.floor (counts b.counts)
-told (NoRoute c) row = no_route (counts c)
+-- what is answered, by how its route is read
+abbrev pub answer_of : {R : Type 0} → (R → List ℕ) → Option (Lowest R) → Counts → Answer
+answer_of route None c = no_route c
+answer_of route (Some b) c = lowest b.cost (route b.route) b.floor c
 
-abbrev pub answered : Result Priced PriceRefusal → List ℕ → Answer
+-- the route is what the first numbers of the row are then
+abbrev pub told : Priced ℕ → List ℕ → Answer
+told p row = answer_of (λ n. take n row) p.lowest (counts p.counts)
+
+abbrev pub answered : Result (Priced ℕ) PriceRefusal → List ℕ → Answer
 answered (Ok p) row = told p row
 answered (Err e) row = call_refused (number e)
 
--- the number of a refusal, if there is one
-abbrev pub refusal : Result (Unit {0}) PriceRefusal → Option ℕ
-refusal (Ok u) = None
-refusal (Err e) = Some (number e)
+abbrev pub stops_of : Option (Lowest ℕ) → ℕ
+stops_of None = 0
+stops_of (Some b) = b.route
 
 -- how many numbers of the row are the route
-abbrev pub stops_told : Result Priced PriceRefusal → ℕ
-stops_told (Ok (Lowest b)) = b.stops
-stops_told (Ok (NoRoute c)) = 0
+abbrev pub stops_told : Result (Priced ℕ) PriceRefusal → ℕ
+stops_told (Ok p) = stops_of p.lowest
 stops_told (Err e) = 0
 
 abbrev pub stops_in : Answer → ℕ
@@ -97,6 +92,19 @@ StoreAfter m (Some n) end before after = after ≡ before
 StoreAfter m None None before after = after ≡ replicate (length before) (blank m.start)
 StoreAfter m None (Some t) before after = Filed m.start t.treated after
 
+-- A PRICE
+
+-- What a price over m for so many vans gives: the store and the row before and after, and the result.
+pub record IsPriced {S : Type 0} (m : Answers S) (vans : ℕ) (before after : List (Cell S)) (held left : List ℕ) (r : Result (Priced ℕ) PriceRefusal) : Type 0 where
+  -- it answers as the definition of price does, with the route read off the row
+  pub answer : answered r left ≡ priced m (by_key m) vans (length before) (length held)
+  -- so many numbers of the row are the route
+  pub stops : stops_told r ≡ stops_in (priced m (by_key m) vans (length before) (length held))
+  -- what the row holds then
+  pub row : left ≡ row_after (priced m (by_key m) vans (length before) (length held)) held
+  -- what the store holds then
+  pub store : StoreAfter m (early_refusal m vans (length before) (length held)) (labelling m (by_key m) (length before)) before after
+
 -- STEPS OF A PRICE
 
 -- labelling ended, and the store is beside its table; or the places did not suffice, and the store is blank
@@ -113,5 +121,5 @@ pub record ToldFrom {S : Type 0} (m : Answers S) (places : ℕ) (cells : List (C
   pub beside : Beside (writing m.start) m places None (work cells p) table
 
 -- what is told of the best of the table that labelling comes to, and what the row then holds
-abbrev pub Tells : {S : Type 0} → Answers S → ℕ → ℕ → Priced → List ℕ → List ℕ → Type 0
+abbrev pub Tells : {S : Type 0} → Answers S → ℕ → ℕ → Priced ℕ → List ℕ → List ℕ → Type 0
 Tells {S} m vans places p before after = (t : Table S) → labelling m (by_key m) places ≡ Some t → (told p after ≡ found m vans t t.best) × (stops_told (Ok p) ≡ stops_in (found m vans t t.best)) × (after ≡ row_after (found m vans t t.best) before)

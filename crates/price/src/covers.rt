@@ -22,8 +22,5 @@ pub(crate) fn covers<T: Tier>(tier: &T, k: &Label<T::State>, l: &Label<T::State>
 fn within_gap(gap: Option<u64>, a: i64, b: i64) -> bool
     ensures { result ≡ «within_gap_of» gap a b }
 {
-    match gap {
-        Some(g) => a as i128 + g as i128 <= b as i128,
-        None => false,
-    }
+    gap.is_some_and(|g| i128::from(a) + i128::from(g) <= i128::from(b))
 }

@@ -3,7 +3,8 @@ ghost use Rattle.std.specs.Prelude.{◌≡◌};
 ghost use Rattle.price.specs.Labels.{is_waiting, is_live, blank as «blank_at», waiting as «waiting_at», root as «root_at»};
 
 /// How a place of a store stands.
-#[derive(Clone, Copy)]
+// No `Option` of a label: the definitions say what a blank place holds.
+#[derive(Clone, Copy, PartialEq, Eq)]
 pub enum Status {
     /// no label is here
     Blank,
@@ -17,23 +18,18 @@ impl Status {
     pub(crate) fn waits(self) -> bool
         ensures { result ≡ is_waiting self }
     {
-        match self {
-            Status::Waiting => true,
-            Status::Blank | Status::Treated => false,
-        }
+        self == Status::Waiting
     }
 
     pub(crate) fn live(self) -> bool
         ensures { result ≡ is_live self }
     {
-        match self {
-            Status::Blank => false,
-            Status::Waiting | Status::Treated => true,
-        }
+        self != Status::Blank
     }
 }
 
 /// The label that a label goes on from: its place in the store, and its number.
+// A place and no reference: all labels stand in one slice, which the caller lends.
 #[derive(Clone, Copy)]
 pub struct Parent {
     pub place: usize,
@@ -71,8 +67,9 @@ impl<S: Copy> Label<S> {
     pub(crate) fn root(start: S) -> Self
         ensures { result ≡ «waiting_at» 0 («root_at» start) }
     {
-        let mut label = Label::blank(start);
-        label.status = Status::Waiting;
-        label
+        Label {
+            status: Status::Waiting,
+            ..Label::blank(start)
+        }
     }
 }

@@ -4,19 +4,18 @@
 mod answer;
 mod choices;
 mod covers;
+mod desk;
 mod label;
 mod offers;
 mod places;
 mod pricing;
 mod progress;
-mod refusal;
 mod rows;
 mod runs;
 mod turns;
 
 pub use answer::{Lowest, Priced};
-pub use calls::{MOST_LABELS, MOST_VANS, ROW_LENGTH};
+pub use calls::{MOST_LABELS, MOST_VANS, PriceRefusal, ROW_LENGTH, refuse_early};
 pub use label::{Label, Parent, Status};
-pub use pricing::{price, refuse_early};
+pub use pricing::price;
 pub use progress::Counts;
-pub use refusal::PriceRefusal;

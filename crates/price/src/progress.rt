@@ -1,6 +1,8 @@
 //! How far labelling has come.
-ghost use Rattle.std.specs.Prelude.{◌≡◌};
-ghost use Rattle.price.specs.Progress.{at_first};
+ghost use Rattle.std.specs.Prelude.{◌≡◌, Some};
+ghost use Rattle.price.specs.Progress.{at_first, counts_words};
+
+use std::fmt;
 
 /// How many labels were kept, the root too, how many of them were struck, and how many offers were
 /// turned away.
@@ -11,14 +13,25 @@ pub struct Counts {
     pub turned: usize,
 }
 
-/// What is known beside the store.
+impl fmt::Display for Counts {
+    ghost output = { λ counts. Some (counts_words counts) };
+
+    fn fmt<W: fmt::Write>(&self, f: &mut fmt::Formatter<W>) -> fmt::Result {
+        let Counts {
+            kept,
+            struck,
+            turned,
+        } = self;
+        write!(f, "{kept} kept, {struck} struck, {turned} turned away")
+    }
+}
+
+/// How far labelling has come, beside what the store shows.
 #[derive(Clone, Copy)]
 pub(crate) struct Progress {
-    /// the lowest total so far, and the place of its last label
+    /// the lowest total so far, and the place of its last label: the pair of the definitions
     pub(crate) best: Option<(i64, usize)>,
     pub(crate) counts: Counts,
-    /// the places from here on are blank
-    pub(crate) used: usize,
 }
 
 impl Progress {
@@ -33,7 +46,6 @@ impl Progress {
                 struck: 0,
                 turned: 0,
             },
-            used: 1,
         }
     }
 }

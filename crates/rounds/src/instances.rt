@@ -1,12 +1,9 @@
 //! The instances that are priced.
 use book::{Book, Fleet, Leg, OutOfRange, Visit};
 
-fn leg(cost: u32, minutes: u16) -> Leg {
-    Leg { cost, minutes }
-}
-
-// An instance of stops that are open from 0 to so late each, without loads; two vans.
-fn open_until(closes: &[u16]) -> Result<Book, OutOfRange> {
+// Stops that are open from 0 to so late each, without loads, and legs by from, to, cost and minutes;
+// two vans.
+fn instance(closes: &[u16], legs: &[(usize, usize, u32, u16)]) -> Result<Book, OutOfRange> {
     let fleet = Fleet {
         vans: 2,
         capacity: 99,
@@ -21,54 +18,66 @@ fn open_until(closes: &[u16]) -> Result<Book, OutOfRange> {
             load: 0,
             charger: false,
         };
-        book.put_visit(i.saturating_add(1), visit)?;
+        book.put_visit(i + 1, visit)?;
+    }
+    for &(from, to, cost, minutes) in legs {
+        book.put_leg(from, to, Leg { cost, minutes })?;
     }
     Ok(book)
 }
 
 /// Two visits: 10 mils and 5 minutes to the first, 12 and 6 to the second, 4 and 3 between them.
 pub(crate) fn two_visits() -> Result<Book, OutOfRange> {
-    let mut book = open_until(&[10, 20])?;
-    book.put_leg(0, 1, leg(10, 5))?;
-    book.put_leg(0, 2, leg(12, 6))?;
-    book.put_leg(1, 0, leg(10, 5))?;
-    book.put_leg(1, 2, leg(4, 3))?;
-    book.put_leg(2, 0, leg(12, 6))?;
-    book.put_leg(2, 1, leg(4, 3))?;
-    Ok(book)
+    instance(
+        &[10, 20],
+        &[
+            (0, 1, 10, 5),
+            (0, 2, 12, 6),
+            (1, 0, 10, 5),
+            (1, 2, 4, 3),
+            (2, 0, 12, 6),
+            (2, 1, 4, 3),
+        ],
+    )
 }
 
 /// Three visits whose cheapest way to stop 2 is not the start of the cheapest route.
 pub(crate) fn three_visits() -> Result<Book, OutOfRange> {
-    let mut book = open_until(&[4, 7, 8])?;
-    book.put_leg(0, 1, leg(3, 1))?;
-    book.put_leg(0, 2, leg(4, 1))?;
-    book.put_leg(0, 3, leg(1, 1))?;
-    book.put_leg(1, 0, leg(3, 1))?;
-    book.put_leg(1, 2, leg(0, 1))?;
-    book.put_leg(1, 3, leg(5, 1))?;
-    book.put_leg(2, 0, leg(3, 1))?;
-    book.put_leg(2, 1, leg(2, 1))?;
-    book.put_leg(2, 3, leg(4, 1))?;
-    book.put_leg(3, 0, leg(3, 1))?;
-    book.put_leg(3, 1, leg(0, 1))?;
-    book.put_leg(3, 2, leg(2, 1))?;
-    Ok(book)
+    instance(
+        &[4, 7, 8],
+        &[
+            (0, 1, 3, 1),
+            (0, 2, 4, 1),
+            (0, 3, 1, 1),
+            (1, 0, 3, 1),
+            (1, 2, 0, 1),
+            (1, 3, 5, 1),
+            (2, 0, 3, 1),
+            (2, 1, 2, 1),
+            (2, 3, 4, 1),
+            (3, 0, 3, 1),
+            (3, 1, 0, 1),
+            (3, 2, 2, 1),
+        ],
+    )
 }
 
 /// Two visits, where the dear way to stop 2 waits when the cheap one strikes it.
 pub(crate) fn struck_visits() -> Result<Book, OutOfRange> {
-    let mut book = open_until(&[20, 20])?;
-    book.put_leg(0, 1, leg(1, 1))?;
-    book.put_leg(0, 2, leg(50, 10))?;
-    book.put_leg(1, 0, leg(1, 1))?;
-    book.put_leg(1, 2, leg(1, 1))?;
-    book.put_leg(2, 0, leg(1, 1))?;
-    book.put_leg(2, 1, leg(1, 1))?;
-    Ok(book)
+    instance(
+        &[20, 20],
+        &[
+            (0, 1, 1, 1),
+            (0, 2, 50, 10),
+            (1, 0, 1, 1),
+            (1, 2, 1, 1),
+            (2, 0, 1, 1),
+            (2, 1, 1, 1),
+        ],
+    )
 }
 
 /// Two visits, open all day, a minute and nothing from each other.
 pub(crate) fn all_day() -> Result<Book, OutOfRange> {
-    open_until(&[1440, 1440])
+    instance(&[1440, 1440], &[])
 }

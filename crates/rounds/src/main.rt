@@ -4,10 +4,10 @@
 mod instances;
 mod print;
 
-use anyhow::anyhow;
 use cuts::Cuts;
 use instances::{all_day, struck_visits, three_visits, two_visits};
 use ng::Ng;
+use price::ROW_LENGTH;
 use print::print_answers;
 use round::Round;
 use sitting::{Call, Sitting};
@@ -33,7 +33,10 @@ fn tighten(tier: usize, index: usize, members: StopSet, amount: i64) -> Call {
 }
 
 const fn price(places: usize) -> Call {
-    Call::Price { places, row: 1440 }
+    Call::Price {
+        places,
+        row: ROW_LENGTH,
+    }
 }
 
 // Opens a sitting on the pile for two vans, and carries out the calls.
@@ -52,9 +55,7 @@ fn sit<T: Tier + Drop>(
 }
 
 fn plain_round(rt: &HostRuntime) -> anyhow::Result<()> {
-    let Ok(book) = two_visits() else {
-        return Err(anyhow!("a number of the book is out of range"));
-    };
+    let book = two_visits()?;
     let calls = [
         price(3),
         set(1, 16),
@@ -65,24 +66,20 @@ fn plain_round(rt: &HostRuntime) -> anyhow::Result<()> {
         price(0),
         Call::Price {
             places: 6,
-            row: 1439,
+            row: ROW_LENGTH - 1,
         },
     ];
     sit(rt, "Two visits over Round", Round::new(book), &calls)
 }
 
 fn plain_town(rt: &HostRuntime) -> anyhow::Result<()> {
-    let Ok(book) = two_visits() else {
-        return Err(anyhow!("a number of the book is out of range"));
-    };
+    let book = two_visits()?;
     let calls = [price(20), set(1, 16), set(2, 18), price(20), price(8)];
     sit(rt, "Two visits over Town", Town::new(book), &calls)
 }
 
 fn with_ng(rt: &HostRuntime) -> anyhow::Result<()> {
-    let Ok(book) = two_visits() else {
-        return Err(anyhow!("a number of the book is out of range"));
-    };
+    let book = two_visits()?;
     let one = StopSet::just(1);
     let two = StopSet::just(2);
     let calls = [
@@ -104,9 +101,7 @@ fn with_ng(rt: &HostRuntime) -> anyhow::Result<()> {
 }
 
 fn with_cuts(rt: &HostRuntime) -> anyhow::Result<()> {
-    let Ok(book) = three_visits() else {
-        return Err(anyhow!("a number of the book is out of range"));
-    };
+    let book = three_visits()?;
     let all = StopSet::just(1)
         .joined(StopSet::just(2))
         .joined(StopSet::just(3));
@@ -136,9 +131,7 @@ fn with_cuts(rt: &HostRuntime) -> anyhow::Result<()> {
 }
 
 fn struck(rt: &HostRuntime) -> anyhow::Result<()> {
-    let Ok(book) = struck_visits() else {
-        return Err(anyhow!("a number of the book is out of range"));
-    };
+    let book = struck_visits()?;
     sit(
         rt,
         "Three places suffice, since one label is struck",
@@ -148,9 +141,7 @@ fn struck(rt: &HostRuntime) -> anyhow::Result<()> {
 }
 
 fn five_tiers(rt: &HostRuntime) -> anyhow::Result<()> {
-    let Ok(book) = two_visits() else {
-        return Err(anyhow!("a number of the book is out of range"));
-    };
+    let book = two_visits()?;
     let calls = [
         set(1, 16),
         tighten(5, 1, StopSet::just(2), 0),
@@ -166,9 +157,7 @@ fn five_tiers(rt: &HostRuntime) -> anyhow::Result<()> {
 }
 
 fn longest(rt: &HostRuntime) -> anyhow::Result<()> {
-    let Ok(book) = all_day() else {
-        return Err(anyhow!("a number of the book is out of range"));
-    };
+    let book = all_day()?;
     let calls = [set(1, 1), set(2, 1), price(2880), price(2881)];
     sit(
         rt,

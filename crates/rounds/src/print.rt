@@ -1,14 +1,13 @@
 //! Calls and answers, as a planner reads them. Money is in mils.
-use price::Counts;
-use sitting::{Answer, Call};
+// Printed piece by piece: the words are this program's own.
+use price::{Counts, Lowest, Priced, ROW_LENGTH};
+use sitting::{Answer, Call, Done};
 use std::io;
 use stops::StopSet;
 
 fn print_members(rt: &HostRuntime, members: StopSet) -> io::Result<()> {
-    for stop in 0..64 {
-        if members.has(stop) {
-            print!(rt; " {stop}")?;
-        }
+    for stop in (0..64).filter(|stop| members.has(*stop)) {
+        print!(rt; " {stop}")?;
     }
     Ok(())
 }
@@ -32,7 +31,7 @@ fn print_call(rt: &HostRuntime, call: Call) -> io::Result<()> {
         }
         Call::Price { places, row } => {
             print!(rt; "  price in {places} places")?;
-            if row != 1440 {
+            if row != ROW_LENGTH {
                 print!(rt; ", a row of {row}")?;
             }
             print!(rt; ": ")
@@ -52,32 +51,29 @@ fn print_route(rt: &HostRuntime, route: &[usize]) -> io::Result<()> {
     Ok(())
 }
 
-fn print_counts(rt: &HostRuntime, counts: Counts) -> io::Result<()> {
-    let kept = counts.kept;
-    let struck = counts.struck;
-    let turned = counts.turned;
-    println!(rt; "; {kept} labels kept, {struck} struck, {turned} turned away")
+fn print_lowest(rt: &HostRuntime, lowest: &Lowest<Vec<usize>>) -> io::Result<()> {
+    print!(rt; "lowest {} by route", lowest.cost)?;
+    print_route(rt, &lowest.route)?;
+    print!(rt; ", no plan under {}", lowest.floor)
 }
 
 fn print_answer(rt: &HostRuntime, answer: &Answer) -> io::Result<()> {
     match answer {
-        Answer::Taken => println!(rt; "taken"),
-        Answer::Refused { number } => println!(rt; "refused by {number}"),
-        Answer::Lowest {
-            cost,
-            route,
-            floor,
-            counts,
-        } => {
-            print!(rt; "lowest {cost} by route")?;
-            print_route(rt, route)?;
-            print!(rt; ", no plan under {floor}")?;
-            print_counts(rt, *counts)
+        Ok(Done::Taken) => println!(rt; "taken"),
+        Ok(Done::Priced(Priced { lowest, counts })) => {
+            match lowest {
+                Some(lowest) => print_lowest(rt, lowest)?,
+                None => print!(rt; "no route")?,
+            }
+            // The counts alone do not tell a planner what is kept.
+            let Counts {
+                kept,
+                struck,
+                turned,
+            } = counts;
+            println!(rt; "; {kept} labels kept, {struck} struck, {turned} turned away")
         }
-        Answer::NoRoute { counts } => {
-            print!(rt; "no route")?;
-            print_counts(rt, *counts)
-        }
+        Err(refusal) => println!(rt; "{refusal}"),
     }
 }
 

@@ -1,10 +1,12 @@
 -- What a sample tells, as an answer.
-use Rattle.std.specs.Prelude.{take}
-use Rattle.calls.specs.Calls.{Answer, call_refused, lowest, no_route}
-use Rattle.samples.specs.declared.prices.Told.{Told}
-use Rattle.samples.specs.declared.prices.Told.TheVariants.{Lowest, NoRoute, Refused}
+use Rattle.std.specs.Prelude.{List, ℕ, Ok, Err, Result}
+use Rattle.std.specs.Borrow.{Bor}
+use Rattle.calls.specs.Calls.{Answer, call_refused}
+use Rattle.calls.specs.Refusals.{number}
+use Rattle.calls.specs.declared.refusal.PriceRefusal.{PriceRefusal}
+use Rattle.price.specs.declared.answer.Priced.{Priced}
+use Rattle.price.specs.Prices.{counts, answer_of}
 
-abbrev pub answer : Told → Answer
-answer (Lowest p) = lowest p.cost (take p.stops p.route) p.floor (record { kept = p.kept; struck = p.struck; turned = p.turned })
-answer (NoRoute k) = no_route (record { kept = k; struck = 0; turned = 0 })
-answer (Refused n) = call_refused n
+abbrev pub answer : Result (Priced (Bor (List ℕ))) PriceRefusal → Answer
+answer (Ok p) = answer_of (λ (r : Bor (List ℕ)). r.now) p.lowest (counts p.counts)
+answer (Err e) = call_refused (number e)

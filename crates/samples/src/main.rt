@@ -4,33 +4,32 @@
 
 mod prices;
 
+use price::{Lowest, Priced};
 use prices::{
-    Price, Told, at_high_duals, at_no_duals, too_heavy, with_a_cut, with_a_cut_without_gaps,
-    with_gaps, with_ties, without_gaps,
+    Told, at_high_duals, at_no_duals, too_heavy, with_a_cut, with_a_cut_without_gaps, with_gaps,
+    with_ties, without_gaps,
 };
 use std::io;
 
-fn print_price(rt: &HostRuntime, price: &Price) -> io::Result<()> {
-    let cost = price.cost;
-    let floor = price.floor;
-    let kept = price.kept;
-    let struck = price.struck;
-    let turned = price.turned;
+fn print_price(rt: &HostRuntime, price: Priced<&[usize]>) -> io::Result<()> {
+    let Priced { lowest, counts } = price;
+    let Some(Lowest { cost, route, floor }) = lowest else {
+        return println!(rt; "  no route; {} kept", counts.kept);
+    };
     print!(rt; "  lowest {cost} by route")?;
-    for stop in price.route.iter().take(price.stops) {
+    for stop in route {
         print!(rt; " {stop}")?;
     }
     println!(rt)?;
     println!(rt; "  floor {floor}")?;
-    println!(rt; "  {kept} kept, {struck} struck, {turned} turned away")
+    println!(rt; "  {counts}")
 }
 
 fn print_told(rt: &HostRuntime, title: &str, told: Told) -> io::Result<()> {
     println!(rt; "{title}")?;
     match told {
-        Told::Lowest(price) => print_price(rt, &price)?,
-        Told::NoRoute(kept) => println!(rt; "  no route; {kept} kept")?,
-        Told::Refused(number) => println!(rt; "  refused by {number}")?,
+        Ok(price) => print_price(rt, price)?,
+        Err(refusal) => println!(rt; "  {refusal}")?,
     }
     println!(rt)
 }

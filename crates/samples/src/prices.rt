@@ -6,40 +6,26 @@ ghost use Rattle.samples.specs.ThreeVisits.{price_three};
 ghost use Rattle.samples.specs.Told.{answer};
 ghost use Rattle.samples.specs.TwoVisits.{price_two};
 
-/// A lowest cost with its route, the floor, and how many labels were kept, struck and turned away.
-#[derive(Clone, Copy)]
-pub(crate) struct Price {
-    pub(crate) cost: i64,
-    /// the first `stops` numbers are the route
-    pub(crate) route: [usize; 3],
-    pub(crate) stops: usize,
-    pub(crate) floor: i64,
-    pub(crate) kept: u64,
-    pub(crate) struck: u64,
-    pub(crate) turned: u64,
-}
+use price::{Counts, Lowest, PriceRefusal, Priced};
 
 /// What a price tells.
-#[derive(Clone, Copy)]
-pub(crate) enum Told {
-    Lowest(Price),
-    /// how many labels were kept; none was struck or turned away
-    NoRoute(u64),
-    Refused(u8),
-}
+pub(crate) type Told = Result<Priced<&'static [usize]>, PriceRefusal>;
 
 /// Two visits at duals 0, with three places: each of the two long ways is turned away.
 pub(crate) fn at_no_duals() -> Told
     ensures { answer result ≡ price_two 10 (pos 0) (pos 0) 3 }
 {
-    Told::Lowest(Price {
-        cost: 20,
-        route: [1, 0, 0],
-        stops: 1,
-        floor: 0,
-        kept: 3,
-        struck: 0,
-        turned: 2,
+    Ok(Priced {
+        lowest: Some(Lowest {
+            cost: 20,
+            route: &[1],
+            floor: 0,
+        }),
+        counts: Counts {
+            kept: 3,
+            struck: 0,
+            turned: 2,
+        },
     })
 }
 
@@ -47,28 +33,38 @@ pub(crate) fn at_no_duals() -> Told
 pub(crate) fn at_high_duals() -> Told
     ensures { answer result ≡ price_two 10 (pos 16) (pos 18) 5 }
 {
-    Told::Refused(5)
+    Err(PriceRefusal::StoreFull)
 }
 
 /// The same with vans that carry 1: only the root is kept.
 pub(crate) fn too_heavy() -> Told
     ensures { answer result ≡ price_two 1 (pos 0) (pos 0) 3 }
 {
-    Told::NoRoute(1)
+    Ok(Priced {
+        lowest: None,
+        counts: Counts {
+            kept: 1,
+            struck: 0,
+            turned: 0,
+        },
+    })
 }
 
 /// Three visits with ties, a strike, and places that just suffice.
 pub(crate) fn with_ties() -> Told
     ensures { answer result ≡ price_three }
 {
-    Told::Lowest(Price {
-        cost: -5,
-        route: [2, 3, 2],
-        stops: 3,
-        floor: -4,
-        kept: 9,
-        struck: 2,
-        turned: 2,
+    Ok(Priced {
+        lowest: Some(Lowest {
+            cost: -5,
+            route: &[2, 3, 2],
+            floor: -4,
+        }),
+        counts: Counts {
+            kept: 9,
+            struck: 2,
+            turned: 2,
+        },
     })
 }
 
@@ -76,14 +72,17 @@ pub(crate) fn with_ties() -> Told
 pub(crate) fn with_a_cut() -> Told
     ensures { answer result ≡ price_cut }
 {
-    Told::Lowest(Price {
-        cost: -3,
-        route: [3, 1, 2],
-        stops: 3,
-        floor: 4,
-        kept: 10,
-        struck: 0,
-        turned: 4,
+    Ok(Priced {
+        lowest: Some(Lowest {
+            cost: -3,
+            route: &[3, 1, 2],
+            floor: 4,
+        }),
+        counts: Counts {
+            kept: 10,
+            struck: 0,
+            turned: 4,
+        },
     })
 }
 
@@ -91,14 +90,17 @@ pub(crate) fn with_a_cut() -> Told
 pub(crate) fn with_a_cut_without_gaps() -> Told
     ensures { answer result ≡ price_cut_without }
 {
-    Told::Lowest(Price {
-        cost: -1,
-        route: [1, 2, 0],
-        stops: 2,
-        floor: 6,
-        kept: 6,
-        struck: 0,
-        turned: 5,
+    Ok(Priced {
+        lowest: Some(Lowest {
+            cost: -1,
+            route: &[1, 2],
+            floor: 6,
+        }),
+        counts: Counts {
+            kept: 6,
+            struck: 0,
+            turned: 5,
+        },
     })
 }
 
@@ -106,14 +108,17 @@ pub(crate) fn with_a_cut_without_gaps() -> Told
 pub(crate) fn with_gaps() -> Told
     ensures { answer result ≡ price_trip true }
 {
-    Told::Lowest(Price {
-        cost: 5,
-        route: [2, 3, 0],
-        stops: 2,
-        floor: 0,
-        kept: 6,
-        struck: 0,
-        turned: 0,
+    Ok(Priced {
+        lowest: Some(Lowest {
+            cost: 5,
+            route: &[2, 3],
+            floor: 0,
+        }),
+        counts: Counts {
+            kept: 6,
+            struck: 0,
+            turned: 0,
+        },
     })
 }
 
@@ -121,13 +126,16 @@ pub(crate) fn with_gaps() -> Told
 pub(crate) fn without_gaps() -> Told
     ensures { answer result ≡ price_trip false }
 {
-    Told::Lowest(Price {
-        cost: 9,
-        route: [1, 2, 3],
-        stops: 3,
-        floor: 0,
-        kept: 5,
-        struck: 1,
-        turned: 0,
+    Ok(Priced {
+        lowest: Some(Lowest {
+            cost: 9,
+            route: &[1, 2, 3],
+            floor: 0,
+        }),
+        counts: Counts {
+            kept: 5,
+            struck: 1,
+            turned: 0,
+        },
     })
 }

@@ -1,19 +1,19 @@
 //! A sitting: a pile with a number of vans, reached by set, tighten and price alone.
 #![tactic(auto)]
 
+mod refusal;
 mod runs;
 mod told;
 
-ghost use Rattle.std.specs.Prelude.{◌≡◌, length};
+ghost use Rattle.std.specs.Prelude.{◌≡◌};
 ghost use Rattle.tier.specs.Refusals.{Did};
-ghost use Rattle.labelling.specs.Labelling.{by_key, labelling};
-ghost use Rattle.calls.specs.Calls.{early_refusal, priced};
-ghost use Rattle.price.specs.Prices.{answered, stops_told, stops_in, row_after, StoreAfter};
+ghost use Rattle.price.specs.Prices.{IsPriced};
 
 use price::{Label, PriceRefusal, Priced, price};
+pub use refusal::CallRefusal;
 use stops::StopSet;
 use tier::{Refusal, Tier};
-pub use told::{Answer, Call};
+pub use told::{Answer, Call, Done};
 
 /// A pile at whatever value it stands, and a number of vans. It holds the pile: only the calls of the
 /// sitting reach it.
@@ -23,6 +23,7 @@ pub struct Sitting<T> {
     vans: usize,
 }
 
+// Each call says that the vans stay: a call with a `&mut` may change any field.
 impl<T: Tier> Sitting<T> {
     /// Opens a sitting on the pile as it stands, with any number of vans.
     pub fn open(pile: T, vans: usize) -> Self
@@ -61,11 +62,8 @@ impl<T: Tier> Sitting<T> {
         &self,
         store: &mut [Label<T::State>],
         row: &mut [usize],
-    ) -> Result<Priced, PriceRefusal>
-        ensures answer { answered result row.new ≡ priced (T.meaning.answers (T.value self.now.pile)) (by_key (T.meaning.answers (T.value self.now.pile))) self.now.vans (length store.old) (length row.old) }
-        ensures stops { stops_told result ≡ stops_in (priced (T.meaning.answers (T.value self.now.pile)) (by_key (T.meaning.answers (T.value self.now.pile))) self.now.vans (length store.old) (length row.old)) }
-        ensures row { row.new ≡ row_after (priced (T.meaning.answers (T.value self.now.pile)) (by_key (T.meaning.answers (T.value self.now.pile))) self.now.vans (length store.old) (length row.old)) row.old }
-        ensures store { StoreAfter (T.meaning.answers (T.value self.now.pile)) (early_refusal (T.meaning.answers (T.value self.now.pile)) self.now.vans (length store.old) (length row.old)) (labelling (T.meaning.answers (T.value self.now.pile)) (by_key (T.meaning.answers (T.value self.now.pile))) (length store.old)) store.old store.new }
+    ) -> Result<Priced<usize>, PriceRefusal>
+        ensures { IsPriced (T.meaning.answers (T.value self.now.pile)) self.now.vans store.old store.new row.old row.new result }
     {
         price(&self.pile, self.vans, store, row)
     }

@@ -1,18 +1,20 @@
 //! Lists of calls on a sitting, one after the other.
 ghost use Rattle.std.specs.Prelude.{◌≡◌, map, replicate, IfOk, vec_len, OnErr};
 ghost use Rattle.labelling.specs.Labelling.{by_key};
-ghost use Rattle.calls.specs.Calls.{call_refused, priced, step, run};
+ghost use Rattle.calls.specs.Calls.{priced, step, run};
 ghost use Rattle.calls.specs.Promises.{Promise, Carried, CutShort};
-ghost use Rattle.price.specs.Prices.{number, answered};
+ghost use Rattle.price.specs.Prices.{answered};
 ghost use Rattle.sitting.specs.Answers.{called, meant, judged as «judged_of»};
 
 use crate::Sitting;
-use crate::told::{Answer, Call};
-use price::{Label, PriceRefusal, Priced, ROW_LENGTH, refuse_early};
+use crate::refusal::CallRefusal;
+use crate::told::{Answer, Call, Done};
+use price::{Label, Lowest, PriceRefusal, Priced, ROW_LENGTH, refuse_early};
 use std::alloc::{AllocError, Global};
 use tier::{Refusal, Tier};
 
 // So many of one value.
+// `vec!` clones, and no law says that a clone of a `Copy` value equals it.
 fn filled<X: Copy>(heap: Global, count: usize, value: X) -> Result<Vec<X>, AllocError>
     ensures { IfOk result (λ v. (v.items ≡ replicate count value) × (vec_len v ≡ count)) }
 {
@@ -25,40 +27,24 @@ fn filled<X: Copy>(heap: Global, count: usize, value: X) -> Result<Vec<X>, Alloc
 fn judged(res: Result<(), Refusal>) -> Answer
     ensures { meant result ≡ «judged_of» res }
 {
-    match res {
-        Ok(()) => Answer::Taken,
-        Err(refusal) => Answer::Refused {
-            number: refusal.number(),
-        },
-    }
-}
-
-fn refused_by(refusal: PriceRefusal) -> Answer
-    ensures { meant result ≡ call_refused (number refusal) }
-{
-    Answer::Refused {
-        number: refusal.number(),
-    }
+    res?;
+    Ok(Done::Taken)
 }
 
 // What a price answers, with its route taken out of the row.
-fn told(res: Result<Priced, PriceRefusal>, row: Vec<usize>) -> Answer
+fn told(res: Result<Priced<usize>, PriceRefusal>, mut row: Vec<usize>) -> Answer
     ensures { meant result ≡ answered res row.items }
 {
-    match res {
-        Ok(Priced::Lowest(lowest)) => {
-            let mut route = row;
-            route.truncate(lowest.stops);
-            Answer::Lowest {
-                cost: lowest.cost,
-                route,
-                floor: lowest.floor,
-                counts: lowest.counts,
-            }
+    let Priced { lowest, counts } = res?;
+    let lowest = lowest.map(|Lowest { cost, route, floor }| {
+        row.truncate(route);
+        Lowest {
+            cost,
+            route: row,
+            floor,
         }
-        Ok(Priced::NoRoute(counts)) => Answer::NoRoute { counts },
-        Err(refusal) => refused_by(refusal),
-    }
+    });
+    Ok(Done::Priced(Priced { lowest, counts }))
 }
 
 impl<T: Tier> Sitting<T> {
@@ -68,7 +54,7 @@ impl<T: Tier> Sitting<T> {
         ensures { IfOk result (λ a. meant a ≡ priced (T.meaning.answers (T.value self.now.pile)) (by_key (T.meaning.answers (T.value self.now.pile))) self.now.vans places row) }
     {
         if let Err(refusal) = refuse_early(&self.pile, self.vans, places, row) {
-            return Ok(refused_by(refusal));
+            return Ok(Err(CallRefusal::from(refusal)));
         }
         let mut store = filled(heap, places, Label::blank(self.pile.start()))?;
         let mut row = filled(heap, ROW_LENGTH, 0)?;
@@ -98,7 +84,8 @@ impl<T: Tier> Sitting<T> {
         }
     }
 
-    // The calls one after the other.
+    // The calls one after the other. Apart from `carry_out`, whose promises then follow from these clauses
+    // alone, so that a wrong call there is refused where it stands.
     fn make_all(&mut self, heap: Global, calls: &[Call]) -> Result<Vec<Answer>, AllocError>
         ensures carried { IfOk result (λ out. Carried T.meaning self.old.vans (T.value self.old.pile) (map called calls.now) (map meant out.items) (T.value self.new.pile)) }
         ensures cut_short { OnErr result (CutShort T.meaning self.old.vans (T.value self.old.pile) (map called calls.now) (T.value self.new.pile)) }

@@ -1,5 +1,6 @@
 //! Calls as data, and their answers.
-use price::Counts;
+use crate::refusal::CallRefusal;
+use price::Priced;
 use stops::StopSet;
 
 /// A call on a sitting.
@@ -23,21 +24,14 @@ pub enum Call {
     },
 }
 
-/// What a call answers.
+/// What a call did that was not refused.
 #[derive(Drop)]
-pub enum Answer {
+pub enum Done {
+    /// a set or tighten was taken
     Taken,
-    /// by the number of the refusal
-    Refused {
-        number: u8,
-    },
-    Lowest {
-        cost: i64,
-        route: Vec<usize>,
-        floor: i64,
-        counts: Counts,
-    },
-    NoRoute {
-        counts: Counts,
-    },
+    /// a price, with its route
+    Priced(Priced<Vec<usize>>),
 }
+
+/// What a call answers.
+pub type Answer = Result<Done, CallRefusal>;

@@ -1,62 +1,33 @@
-use Rattle.std.proofs.Common.{◌-◌, ◌<◌, ◌++◌, length, drop, sym, refl, ap, ◌∙◌, arith, rules}
-use Rattle.price.specs.Routes.{way_in}
-use Rattle.std.proofs.lemmas.List.{length-set}
-use Rattle.price.proofs.Ways.{back_start, at_root, none_left, some_left, up_within, behind}
-use Rattle.price.proofs.Fills.{back_one}
+use Rattle.std.proofs.Common.{◌<◌, length, arith}
+use Rattle.price.proofs.Ways.{up_within, write_start, write_room, write_on, write_end}
+use Rattle.price.proofs.rows.write_back.Given as given
 use Rattle.price.proofs.rows.write_back.Goals as goal
+use Rattle.price.proofs.rows.write_back.Goals.{In-Some}
 
 pub loop-label-init : goal.loop-label-init
-loop-label-init g c =
-    let store = c.args.store.now in
-    let last = c.args.last in
-    (back_start store last c.index-store-last.result c.args.stops c.requires.within c.index-store-last.is c.requires.count, refl, c.requires.long)
+loop-label-init g c = write_start c.args.store.now c.args.last c.args.row.now c.index-store-last.result c.requires.within c.index-store-last.is
 
-pub overflow_sub-left : goal.overflow_sub-left
-overflow_sub-left g c = some_left c.args.store.now c.loop-label.label.now c.loop-label.left c.loop-label.invariant.0 c.in-Some.parent c.requires.back c.in-Some.is
-
-pub offset_bounds-row-left : goal.offset_bounds-row-left
-offset_bounds-row-left g c =
-    let s = some_left c.args.store.now c.loop-label.label.now c.loop-label.left c.loop-label.invariant.0 c.in-Some.parent c.requires.back c.in-Some.is in
-    let l = c.loop-label.invariant.2 in
-    let k = c.loop-label.auto.row in
-    let h : c.loop-label.left - 1 < length c.args.row.now = omega arith in
-    search rules
-
-pub bounds-row-left : goal.bounds-row-left
-bounds-row-left g c =
-    let s = some_left c.args.store.now c.loop-label.label.now c.loop-label.left c.loop-label.invariant.0 c.in-Some.parent c.requires.back c.in-Some.is in
-    let l = c.loop-label.invariant.2 in
+-- a stop is still to be written
+room : (g : given.Over) (c : In-Some g) → c.loop-label.stops < length c.args.row.now
+room g c =
+    let s = c.requires.short in
+    let r = write_room c.args.store.now c.args.last c.args.row.now c.loop-label.label.now c.loop-label.stops c.loop-label.row c.loop-label.invariant c.in-Some.parent c.requires.back c.in-Some.is in
     omega arith
 
+pub bounds-row-stops : goal.bounds-row-stops
+bounds-row-stops g c = let r = room g (goal.at.bounds-row-stops g c).In-Some in let k = c.loop-label.auto.row in omega arith
+
 pub offset_bounds-store-parent : goal.offset_bounds-store-parent
-offset_bounds-store-parent g c = let h = up_within c.args.store.now c.loop-label.label.now c.loop-label.left c.loop-label.invariant.0 c.in-Some.parent c.requires.back c.in-Some.is in omega arith
+offset_bounds-store-parent g c = let h = up_within c.args.store.now c.loop-label.label.now c.loop-label.invariant.back c.in-Some.parent c.requires.back c.in-Some.is in omega arith
 
 pub bounds-store-parent : goal.bounds-store-parent
-bounds-store-parent g c = up_within c.args.store.now c.loop-label.label.now c.loop-label.left c.loop-label.invariant.0 c.in-Some.parent c.requires.back c.in-Some.is
+bounds-store-parent g c = up_within c.args.store.now c.loop-label.label.now c.loop-label.invariant.back c.in-Some.parent c.requires.back c.in-Some.is
 
 pub loop-label-smaller : goal.loop-label-smaller
-loop-label-smaller g c = (behind c.args.store.now c.loop-label.label.now c.loop-label.left c.loop-label.invariant.0 c.in-Some.parent c.index-store-parent.result c.requires.back c.in-Some.is c.index-store-parent.is).less
+loop-label-smaller g c = (write_on c.args.store.now c.args.last c.args.row.now c.loop-label.label.now c.loop-label.stops c.loop-label.row c.loop-label.invariant c.in-Some.parent c.requires.back c.in-Some.is c.index-store-parent.result c.index-store-parent.is (room g (goal.at.loop-label-smaller g c).In-Some)).1
 
 pub loop-label-preserved : goal.loop-label-preserved
-loop-label-preserved g c =
-    let store = c.args.store.now in
-    let row = c.loop-label.row in
-    let left = c.loop-label.left in
-    let stop = c.loop-label.label.now.stop in
-    let o = c.loop-label.invariant.0 in
-    let b = behind store c.loop-label.label.now left o c.in-Some.parent c.index-store-parent.result c.requires.back c.in-Some.is c.index-store-parent.is in
-    let s = b.some in
-    let l = c.loop-label.invariant.2 in
-    let n = length-set row (left - 1) stop in (
-      b.rest,
-      back_one (way_in b.rest.fuel store b.rest.at) row left stop s l
-          ∙ ap (λ w. w ++ drop left row) (sym b.is) ∙ c.loop-label.invariant.1,
-      omega arith,
-    )
+loop-label-preserved g c = (write_on c.args.store.now c.args.last c.args.row.now c.loop-label.label.now c.loop-label.stops c.loop-label.row c.loop-label.invariant c.in-Some.parent c.requires.back c.in-Some.is c.index-store-parent.result c.index-store-parent.is (room g (goal.at.loop-label-preserved g c).In-Some)).0
 
 pub returns : goal.returns
-returns g c =
-    let store = c.args.store.now in
-    let e = at_root store c.loop-label.label.now c.loop-label.left c.loop-label.invariant.0 c.in_default.is in
-    let n = none_left store c.loop-label.label.now c.loop-label.left c.loop-label.invariant.0 c.in_default.is in
-    sym (ap (λ w. w ++ drop c.loop-label.left c.loop-label.row) e ∙ ap (λ i. drop i c.loop-label.row) n) ∙ c.loop-label.invariant.1
+returns g c = let e = write_end c.args.store.now c.args.last c.args.row.now c.loop-label.label.now c.loop-label.stops c.loop-label.row c.loop-label.invariant c.in_default.is in record { stops = e.0; row = e.1 }

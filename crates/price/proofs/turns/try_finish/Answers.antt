@@ -17,9 +17,9 @@ home_small g c =
 pub overflow_add-label : goal.overflow_add-label
 overflow_add-label g c = let h = home_small g (goal.at.overflow_add-label g c).In-Some in let s = c.requires.small in omega (arith, ints)
 
-pub returns-in-Some : goal.returns-in-Some
-returns-in-Some g c =
+pub returns : goal.returns
+returns g c =
     let m = g.T.Tier.meaning.answers (g.T.Tier.value c.args.tier.now) in
-    let h = home_small g (goal.at.returns-in-Some g c).In-Some in
+    let h = home_small g (goal.at.returns g c).In-Some in
     let s = c.requires.small in
     c.lower.ensures ∙ finishes m (view c.args.label.now) c.args.place c.args.best c.in-Some.home _ (λ e. c.if-label-eq0.false e) (sym c.in-Some.ensures) (omega (arith, ints))
