@@ -7,7 +7,7 @@ use Rattle.text.proofs.Trips.{NoLetter, NoDigit, Any, scan_number, Spent, SoundA
 use Rattle.words.specs.declared.vocabulary.Keyword.{Keyword}
 use Rattle.words.specs.Vocabulary.{spelt, same_word}
 use Rattle.words.proofs.Inverse.{same_spelling, same_as_itself}
-use Rattle.form.specs.declared.due.Mark.TheVariants.{Open, Close, Blank, Feed}
+use Rattle.text.specs.declared.token.Mark.TheVariants.{Open, Close, Blank, Feed}
 use Rattle.form.specs.Forms.{same, mark_due, word_due, name_due, number_due}
 use Rattle.form.proofs.Trips.{mark_sounds, word_sounds, name_sounds, number_sounds, mark_takes, word_takes, name_taken}
 use Rattle.bounds.specs.declared.fault.BookFault.TheVariants.{Form, Range, Order}

@@ -4,7 +4,7 @@ use Rattle.text.specs.Tokens.{with_place}
 use Rattle.text.specs.Readers.{Reader, then, and_then}
 use Rattle.words.specs.declared.vocabulary.Keyword.{Keyword}
 use Rattle.words.specs.Vocabulary.{same_word, opens_line}
-use Rattle.form.specs.declared.due.Mark.TheVariants.{Open, Close, Blank, Feed}
+use Rattle.text.specs.declared.token.Mark.TheVariants.{Open, Close, Blank, Feed}
 use Rattle.form.specs.declared.fault.FormFault.{FormFault}
 use Rattle.form.specs.declared.fault.FormFault.TheVariants.{NotDue}
 use Rattle.form.specs.Forms.{same, mark_due, word_due, name_due, number_due}

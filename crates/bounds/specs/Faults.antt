@@ -1,5 +1,5 @@
 -- The number, the place and the layer of a fault.
-use Rattle.std.specs.Prelude.{ℕ}
+use Rattle.std.specs.Prelude.{ℕ, List, codes}
 use Rattle.text.specs.declared.fault.TextFault.TheVariants.{NoKind, BadNumber}
 use Rattle.form.specs.declared.fault.FormFault.TheVariants.{Text, NotDue, NoForm}
 use Rattle.bounds.specs.declared.fault.BookFault.{BookFault}
@@ -29,3 +29,8 @@ layer_of (Form (NotDue p)) = layer.TheVariants.Form
 layer_of (Form (NoForm p)) = layer.TheVariants.Form
 layer_of (Range p) = layer.TheVariants.Book
 layer_of (Order p) = layer.TheVariants.Book
+
+abbrev pub layer_name : Layer → List ℕ
+layer_name layer.TheVariants.Text = codes "text"
+layer_name layer.TheVariants.Form = codes "form"
+layer_name layer.TheVariants.Book = codes "book"

@@ -1,3 +1,4 @@
 pub mod Faults
+pub mod Narrow
 pub mod Bounds
 pub mod Bytes

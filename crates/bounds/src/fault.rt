@@ -1,9 +1,10 @@
 //! Faults, each with the cause as the layer below gave it.
-ghost use Rattle.std.specs.Prelude.{◌≡◌};
+ghost use Rattle.std.specs.Prelude.{◌≡◌, Some};
 ghost use Rattle.bounds.specs.declared.fault.BookFault.TheVariants.{Form};
-ghost use Rattle.bounds.specs.Faults.{number_of, place_of, layer_of};
+ghost use Rattle.bounds.specs.Faults.{number_of, place_of, layer_of, layer_name};
 
 use form::FormFault;
+use std::fmt;
 use text::TextFault;
 
 /// A fault of the book, with the place of its token, or that of the form as it gave it.
@@ -25,15 +26,28 @@ impl From<FormFault> for BookFault {
 }
 
 /// The layer in which a fault arose.
-#[derive(Clone, Copy)]
+#[derive(Clone, Copy, Debug, PartialEq, Eq)]
 pub enum Layer {
     Text,
     Form,
     Book,
 }
 
+impl fmt::Display for Layer {
+    ghost output = { λ layer. Some (layer_name layer) };
+
+    fn fmt<W: fmt::Write>(&self, f: &mut fmt::Formatter<W>) -> fmt::Result {
+        f.write_str(match self {
+            Layer::Text => "text",
+            Layer::Form => "form",
+            Layer::Book => "book",
+        })
+    }
+}
+
 impl BookFault {
     /// 12 to 17.
+    // By cases: they lie in three enums and hold places, so no discriminant is their number.
     pub fn number(self) -> u64
         ensures { result ≡ number_of self }
     {
@@ -52,12 +66,10 @@ impl BookFault {
         ensures { result ≡ place_of self }
     {
         match self {
-            BookFault::Form(FormFault::Text(TextFault::NoKind(place))) => place,
-            BookFault::Form(FormFault::Text(TextFault::BadNumber(place))) => place,
-            BookFault::Form(FormFault::NotDue(place)) => place,
-            BookFault::Form(FormFault::NoForm(place)) => place,
-            BookFault::Range(place) => place,
-            BookFault::Order(place) => place,
+            BookFault::Form(FormFault::Text(TextFault::NoKind(place) | TextFault::BadNumber(place)))
+            | BookFault::Form(FormFault::NotDue(place) | FormFault::NoForm(place))
+            | BookFault::Range(place)
+            | BookFault::Order(place) => place,
         }
     }
 

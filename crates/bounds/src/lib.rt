@@ -5,9 +5,11 @@
 mod fault;
 mod items;
 mod lines;
+mod natural;
 mod numbers;
 
 pub use fault::{BookFault, Layer};
 pub use items::{open_item, open_nested};
 pub use lines::{close_line, misplaced, open_line, open_numbered};
-pub use numbers::{due_in_order, due_u8, due_u16, due_u32, due_usize};
+pub use natural::Natural;
+pub use numbers::{due_in_order, due_within};

@@ -1,5 +1,6 @@
 //! How lines open and close.
 ghost use Rattle.std.specs.Prelude.{◌≡◌};
+ghost use Rattle.std.specs.Range.{range_inclusive_start, range_inclusive_end};
 ghost use Rattle.text.specs.Readers.{Read};
 ghost use Rattle.form.specs.Forms.{same, named};
 ghost use Rattle.bounds.specs.Bounds.{misplaced_of, line_named, line_name, line_opening, numbered_opening, line_closing};
@@ -7,6 +8,7 @@ ghost use Rattle.bounds.specs.Bounds.{misplaced_of, line_named, line_name, line_
 use super::fault::BookFault;
 use super::numbers::due_in_order;
 use form::{FormFault, Mark, Name, due_mark, due_name};
+use std::ops::RangeInclusive;
 use text::Cursor;
 use words::Keyword;
 
@@ -14,7 +16,7 @@ use words::Keyword;
 pub fn misplaced(name: Name) -> BookFault
     ensures { result ≡ misplaced_of (named name) }
 {
-    if name.word.opens_line() {
+    if name.value.opens_line() {
         BookFault::Order(name.place)
     } else {
         BookFault::Form(FormFault::NotDue(name.place))
@@ -24,7 +26,7 @@ pub fn misplaced(name: Name) -> BookFault
 fn is_due(name: Name, due: Keyword) -> Result<(), BookFault>
     ensures { result ≡ line_named due (named name) }
 {
-    if name.word.is(due) {
+    if name.value == due {
         Ok(())
     } else {
         Err(misplaced(name))
@@ -46,19 +48,18 @@ pub fn open_line(cursor: &mut Cursor, due: Keyword) -> Result<(), BookFault>
     due_line(cursor, due)
 }
 
-/// `(`, the name of a line, a blank and the number of the line, from `least` to `most`.
+/// `(`, the name of a line, a blank and the number of the line, of those in a range.
 pub fn open_numbered(
     cursor: &mut Cursor,
     line: Keyword,
-    least: usize,
-    most: usize,
+    range: RangeInclusive<usize>,
     due: usize,
 ) -> Result<(), BookFault>
-    ensures { Read same cursor.old cursor.new result (numbered_opening line least most due) }
+    ensures { Read same cursor.old cursor.new result (numbered_opening line (range_inclusive_start range) (range_inclusive_end range) due) }
 {
     open_line(cursor, line)?;
     due_mark(cursor, Mark::Blank)?;
-    due_in_order(cursor, least, most, due)
+    due_in_order(cursor, range, due)
 }
 
 /// `)` and a line feed.

@@ -1,7 +1,8 @@
 -- A deck and its book, both ways.
-use Rattle.std.proofs.Common.{◌≡◌, ℕ, suc, ◌+◌, ◌*◌, ◌≤◌, Bool, true, false, cond, ◌&&◌, eqb, List, [], ◌++◌, length, drop, replicate, Ok, Err, sym, refl, ap, ◌∙◌, subst, append-nil, zero-add, arith}
+use Rattle.std.proofs.Common.{◌≡◌, ℕ, suc, ◌+◌, ◌*◌, ◌≤◌, Bool, true, false, cond, eqb, List, [], ◌++◌, length, drop, replicate, Ok, Err, sym, refl, ap, ◌∙◌, subst, append-nil, zero-add, arith}
 use lib.ListN.{length-replicate}
-use Rattle.std.proofs.lemmas.Bool.{and_parts, ne_eqb, eq-eqb, eqb-true, true≢false}
+use Rattle.std.proofs.lemmas.Bool.{ne_eqb, eq-eqb, eqb-true, true≢false}
+use Rattle.std.proofs.lemmas.Bool.Decides.{nat_tests}
 use Rattle.stops.specs.Stops.{most_stops, most_places}
 use Rattle.text.proofs.Trips.{Any, SoundAt, Sounds, Takes, sounds_then, sounds_give, takes_then, takes_give}
 use Rattle.text.specs.Readers.{and_then}
@@ -84,20 +85,18 @@ nothing = refl
 
 blank_fleet : (f : Fleet) → fleet_blank f ≡ true → f ≡ record { vans = 0; capacity = 0; battery = 0; most = 0 }
 blank_fleet f e =
-    let a = and_parts (eqb f.vans 0 && eqb f.capacity 0 && eqb f.battery 0) (eqb f.most 0) e in
-    let b = and_parts (eqb f.vans 0 && eqb f.capacity 0) (eqb f.battery 0) a.0 in
-    let c = and_parts (eqb f.vans 0) (eqb f.capacity 0) b.0 in
-    let vans = eqb-true f.vans 0 c.0 in
-    let capacity = eqb-true f.capacity 0 c.1 in
-    let battery = eqb-true f.battery 0 b.1 in
-    let most = eqb-true f.most 0 a.1 in
+    let vans : f.vans ≡ 0 = grind (arith, nat_tests) in
+    let capacity : f.capacity ≡ 0 = grind (arith, nat_tests) in
+    let battery : f.battery ≡ 0 = grind (arith, nat_tests) in
+    let most : f.most ≡ 0 = grind (arith, nat_tests) in
     λ i. record { vans = vans i; capacity = capacity i; battery = battery i; most = most i }
 
 -- there is one book without stops
 pub without_stops : (c : Contents) → InRanges c → c.stops ≡ 0 → c ≡ empty_book
 without_stops c k z =
     let few : c.stops ≤ most_stops = omega arith in
-    let fleet = blank_fleet c.fleet (ap (λ t. cond t (fleet_blank c.fleet) (fleet_fits c.stops c.fleet)) (sym (eq-eqb c.stops 0 z)) ∙ k.fleet) in
+    let ok = k.fleet in
+    let fleet = blank_fleet c.fleet (grind (arith, nat_tests)) in
     let one : c.stops + 1 ≡ 1 = omega arith in
     let visits : c.visits ≡ replicate most_places blank_visit = sym (none_said c few k.visits k.places ∙ ap (λ n. mixed blank_visit n c.visits) (sym one) ∙ all_said c few k.visits k.places) in
     let legs = no_legs c few k.legs k.pairs z in

@@ -1,6 +1,5 @@
 -- The lines of the legs, one by one.
-use Rattle.std.proofs.Common.{◌≡◌, ℕ, zero, suc, ◌+◌, ◌≤◌, Bool, true, false, cond, ◌&&◌, eqb, leb, set, Ok, refl, ◌∙◌, arith}
-use Rattle.std.proofs.lemmas.Bool.{and_from, le-leb}
+use Rattle.std.proofs.Common.{◌≡◌, ℕ, zero, suc, ◌+◌, ◌≤◌, Bool, true, false, cond, eqb, set, Ok, refl, ◌∙◌, arith}
 use Rattle.std.proofs.lemmas.Bool.Decides.{nat_tests}
 use Rattle.text.specs.declared.cursor.Cursor.{Cursor}
 use Rattle.text.specs.Readers.{Read}
@@ -12,25 +11,21 @@ use Rattle.bounds.specs.Bounds.{numbered_opening, line_closing}
 use Rattle.bounds.specs.Bytes.{numbered_start, line_end}
 use Rattle.bounds.proofs.Trips.{numbered_sounds, close_sounds}
 use Rattle.book.specs.declared.parts.Leg.{Leg}
-use Rattle.book.specs.Limits.{most_cost, most_minutes}
-use Rattle.book.specs.Ranges.{leg_fits, leg_index}
+use Rattle.book.specs.Ranges.{leg_index}
 use Rattle.book.specs.Books.{Contents, with_leg, can_put_leg}
 use Rattle.deck.specs.Lines.{leg_pair, leg_pairs, leg_line}
 use Rattle.deck.specs.Bytes.{leg_bytes}
 use Rattle.deck.proofs.LineTrips.{LegBetween, leg_sounds}
 
-pub leg_taken : (b : Contents) (i j : ℕ) (x : Leg) → i ≤ b.stops → j ≤ b.stops → LegBetween i j x → can_put_leg b i j x ≡ true
-leg_taken b i j x h k r = and_from (leb i b.stops && leb j b.stops) _ (and_from (leb i b.stops) (leb j b.stops) (le-leb i b.stops h) (le-leb j b.stops k)) (by (eqb i j) r.0 r.1 r.2)
-  where
-    by : (t : Bool) → x.cost ≤ cond t 0 most_cost → cond t 0 1 ≤ x.minutes → x.minutes ≤ cond t 0 most_minutes → cond t (eqb x.cost 0 && eqb x.minutes 0) (leg_fits x) ≡ true
-    by true l m n = grind (arith, nat_tests)
-    by false l m n = grind (arith, nat_tests)
-
 -- what is read of a leg, the book takes
 pub taken : {here next : Cursor} {x : Leg} (b : Contents) (stops i j : ℕ) → b.stops ≡ stops → i ≤ stops → j ≤ stops → Read same here next (Ok x) (leg_pair i j) → can_put_leg b i j x ≡ true
 taken {x} b stops i j known h k read =
     let s = read_sound (λ x xs. (xs ≡ leg_bytes x) × LegBetween i j x) (leg_sounds i j) read in
-    leg_taken b i j x (omega arith) (omega arith) s.1.1
+    let between = s.1.1 in
+    grind (arith, nat_tests)
+
+pub put : {here next : Cursor} {x : Leg} {c : Contents} (b : Contents) (stops i j : ℕ) → b.stops ≡ stops → i ≤ stops → j ≤ stops → Read same here next (Ok x) (leg_pair i j) → c ≡ cond (can_put_leg b i j x) (with_leg b i j x) b → c ≡ with_leg b i j x
+put b stops i j known h k read e = let t = taken b stops i j known h k read in rw t at e
 
 -- A LINE OF LEGS KEEPS THE NUMBER OF STOPS
 

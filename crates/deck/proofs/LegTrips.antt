@@ -1,6 +1,5 @@
 -- The lines of the legs, both ways.
-use Rattle.std.proofs.Common.{◌≡◌, ℕ, zero, suc, ◌+◌, ◌-◌, ◌*◌, ◌/◌, ◌%◌, ◌<◌, ◌≤◌, Bool, true, false, cond, eqb, ltb, List, [], ◌++◌, length, get_or, set, replicate, sym, refl, ap, ◌∙◌, subst, arith, length-set, get_or-set_other, get_or-set_same}
-use Rattle.std.proofs.lemmas.Bool.{and_parts, eqb-true, lt-ltb}
+use Rattle.std.proofs.Common.{◌≡◌, ℕ, zero, suc, ◌+◌, ◌-◌, ◌*◌, ◌/◌, ◌%◌, ◌<◌, ◌≤◌, Bool, true, false, cond, eqb, List, [], ◌++◌, length, get_or, set, replicate, sym, refl, ap, ◌∙◌, subst, arith, length-set, get_or-set_other, get_or-set_same}
 use Rattle.std.proofs.lemmas.Bool.Decides.{nat_tests}
 use Rattle.stops.specs.Stops.{most_stops, most_places}
 use Rattle.text.proofs.Trips.{NoDigit, Any, Sounds, Takes, sounds_then, sounds_give, sounds_weaker, takes_then, takes_give}
@@ -12,7 +11,7 @@ use Rattle.bounds.specs.Bytes.{numbered_start, line_end}
 use Rattle.bounds.proofs.Trips.{numbered_takes, numbered_sounds, close_takes, close_sounds}
 use Rattle.book.specs.declared.parts.Leg.{Leg}
 use Rattle.book.specs.Limits.{most_cost, most_minutes}
-use Rattle.book.specs.Ranges.{leg_fits, leg_blank, leg_ok, leg_index, blank_leg, apart, LegsOk}
+use Rattle.book.specs.Ranges.{leg_fits, leg_blank, leg_index, blank_leg, apart, LegsOk}
 use Rattle.book.specs.Books.{Contents, no_leg, leg_at, with_leg}
 use Rattle.deck.specs.Lines.{leg_pair, leg_pairs, leg_line, leg_lines}
 use Rattle.deck.specs.Bytes.{leg_bytes, pairs_bytes, leg_line_bytes, leg_lines_bytes}
@@ -99,9 +98,8 @@ lines_sounds (suc k) b i few h =
 
 blank : (x : Leg) → leg_blank x ≡ true → x ≡ blank_leg
 blank x e =
-    let a = and_parts (eqb x.cost 0) (eqb x.minutes 1) e in
-    let cost = eqb-true x.cost 0 a.0 in
-    let minutes = eqb-true x.minutes 1 a.1 in
+    let cost : x.cost ≡ 0 = grind (arith, nat_tests) in
+    let minutes : x.minutes ≡ 1 = grind (arith, nat_tests) in
     λ i. record { cost = cost i; minutes = minutes i }
 
 -- which places are apart
@@ -127,12 +125,11 @@ module _ (c : Contents) (few : c.stops ≤ most_stops) (ok : LegsOk c.stops c.le
   -- no two different places
   outside : (i j : ℕ) → j < most_places → apart c.stops i j ≡ false → get_or c.legs (leg_index i j) blank_leg ≡ blank_leg
   outside i j h e =
-      let l = get_or c.legs (leg_index i j) blank_leg in
-      let is : leg_ok c.stops i j l ≡ leg_blank l = ap (λ t. cond t (leg_fits l) (cond (ltb j most_places) (leg_blank l) true)) e ∙ ap (λ t. cond t (leg_blank l) true) (lt-ltb j most_places h) in
-      blank l (sym is ∙ ok i j)
+      let here = ok i j in
+      blank _ (grind (arith, nat_tests))
 
   inside : (i j : ℕ) → apart c.stops i j ≡ true → leg_fits (get_or c.legs (leg_index i j) blank_leg) ≡ true
-  inside i j e = let l = get_or c.legs (leg_index i j) blank_leg in ap (λ t. cond t (leg_fits l) (cond (ltb j most_places) (leg_blank l) true)) (sym e) ∙ ok i j
+  inside i j e = let here = ok i j in grind (arith, nat_tests)
 
   -- the legs below m are said
   abbrev pub Driven : ℕ → Contents

@@ -5,7 +5,7 @@ use Rattle.stops.specs.Stops.{most_stops}
 use Rattle.text.proofs.Trips.{NoLetter, NoDigit, Any, Sounds, Takes, sounds_then, sounds_give, takes_then, takes_give}
 use Rattle.words.specs.declared.vocabulary.Keyword.{Keyword}
 use Rattle.words.specs.declared.vocabulary.Keyword.TheVariants.{Deck, Stops, Vans, Capacity, Battery, Most, Stop, Window, Load, Charger, End}
-use Rattle.form.specs.declared.due.Mark.TheVariants.{Close, Blank}
+use Rattle.text.specs.declared.token.Mark.TheVariants.{Close, Blank}
 use Rattle.form.specs.Forms.{same, mark_due}
 use Rattle.form.proofs.Trips.{mark_sounds, mark_takes}
 use Rattle.bounds.specs.declared.fault.BookFault.TheVariants.{Form}
@@ -90,17 +90,7 @@ pub fleet_in_range : (stops : ℕ) (f : Fleet) → fleet_fits stops f ≡ true �
 fleet_in_range stops f e = record { some_stops = grind (arith, nat_tests); few_stops = grind (arith, nat_tests); some_vans = grind (arith, nat_tests); few_vans = grind (arith, nat_tests); low_capacity = grind (arith, nat_tests); some_battery = grind (arith, nat_tests); low_battery = grind (arith, nat_tests); some_most = grind (arith, nat_tests); few_most = grind (arith, nat_tests) }
 
 fleet_fits_of : (stops : ℕ) (f : Fleet) → FleetInRange stops f → fleet_fits stops f ≡ true
-fleet_fits_of stops f r =
-    let a = r.some_stops in
-    let b = r.few_stops in
-    let c = r.some_vans in
-    let d = r.few_vans in
-    let e = r.low_capacity in
-    let g = r.some_battery in
-    let h = r.low_battery in
-    let k = r.some_most in
-    let m = r.few_most in
-    grind (arith, nat_tests)
+fleet_fits_of stops f r = grind (arith, nat_tests)
 
 pub first_takes : (f : FirstLine) → fleet_fits f.stops f.fleet ≡ true → Takes first_line Any (first_line_bytes f.stops f.fleet) f
 first_takes f fits =
@@ -136,11 +126,7 @@ pub visit_in_range : (v : Visit) → visit_fits v ≡ true → VisitInRange v
 visit_in_range v e = record { in_order = grind (arith, nat_tests); in_day = grind (arith, nat_tests); light = grind (arith, nat_tests) }
 
 visit_fits_of : (v : Visit) → VisitInRange v → visit_fits v ≡ true
-visit_fits_of v r =
-    let a = r.in_order in
-    let b = r.in_day in
-    let c = r.light in
-    grind (arith, nat_tests)
+visit_fits_of v r = grind (arith, nat_tests)
 
 pub stop_takes : (stops j : ℕ) (v : Visit) → 1 ≤ j → j ≤ stops → stops ≤ most_stops → visit_fits v ≡ true → Takes (stop_line stops j) Any (stop_bytes j v) v
 stop_takes stops j v l h few fits =
@@ -168,10 +154,10 @@ abbrev pub LegBetween : ℕ → ℕ → Leg → Type 0
 LegBetween i j x = (x.cost ≤ most_cost_between i j) × (least_minutes_between i j ≤ x.minutes) × (x.minutes ≤ most_minutes_between i j)
 
 small_cost : (i j : ℕ) (x : Leg) → LegBetween i j x → x.cost < 10 ^ 10
-small_cost i j x r = let h = r.0 in grind (arith, nat_tests)
+small_cost i j x r = grind (arith, nat_tests)
 
 small_minutes : (i j : ℕ) (x : Leg) → LegBetween i j x → x.minutes < 10 ^ 10
-small_minutes i j x r = let h = r.2 in grind (arith, nat_tests)
+small_minutes i j x r = grind (arith, nat_tests)
 
 pub leg_takes : (i j : ℕ) (x : Leg) → LegBetween i j x → Takes (leg_pair i j) Any (leg_bytes x) x
 leg_takes i j x r =

@@ -1,6 +1,5 @@
 -- The lines of the stops, both ways.
-use Rattle.std.proofs.Common.{◌≡◌, ℕ, zero, suc, ◌+◌, ◌*◌, ◌<◌, ◌≤◌, Bool, true, false, cond, not, ◌&&◌, eqb, leb, [], ◌++◌, length, get_or, replicate, sym, refl, ap, ◌∙◌, subst, arith, length-set, get_or-set_other, get_or-set_same}
-use Rattle.std.proofs.lemmas.Bool.{and_parts, and_from, eqb-true, le-leb}
+use Rattle.std.proofs.Common.{◌≡◌, ℕ, zero, suc, ◌+◌, ◌*◌, ◌<◌, ◌≤◌, true, false, [], ◌++◌, length, get_or, replicate, sym, refl, ap, ◌∙◌, subst, arith, length-set, get_or-set_other, get_or-set_same}
 use Rattle.std.proofs.lemmas.Bool.Decides.{nat_tests}
 use Rattle.stops.specs.Stops.{most_stops, most_places}
 use Rattle.text.proofs.Trips.{Any, Sounds, Takes, sounds_then, sounds_give, sounds_weaker, takes_then, takes_give}
@@ -38,26 +37,19 @@ stops_sounds (suc k) b j h =
 
 blank : (v : Visit) → visit_blank v ≡ true → v ≡ blank_visit
 blank v e =
-    let a = and_parts (eqb v.opens 0 && eqb v.closes 0 && eqb v.load 0) (not v.charger) e in
-    let b = and_parts (eqb v.opens 0 && eqb v.closes 0) (eqb v.load 0) a.0 in
-    let c = and_parts (eqb v.opens 0) (eqb v.closes 0) b.0 in
-    let opens = eqb-true v.opens 0 c.0 in
-    let closes = eqb-true v.closes 0 c.1 in
-    let load = eqb-true v.load 0 b.1 in
-    let charger = no v.charger a.1 in
+    let opens : v.opens ≡ 0 = grind (arith, nat_tests) in
+    let closes : v.closes ≡ 0 = grind (arith, nat_tests) in
+    let load : v.load ≡ 0 = grind (arith, nat_tests) in
+    let charger : v.charger ≡ false = grind (arith, nat_tests) in
     λ i. record { opens = opens i; closes = closes i; load = load i; charger = charger i }
-  where
-    no : (t : Bool) → not t ≡ true → t ≡ false
-    no true e = sym e
-    no false e = refl
 
 module _ (c : Contents) (few : c.stops ≤ most_stops) (ok : VisitsOk c.stops c.visits) (long : length c.visits ≡ most_places) where
   -- no stop has this number
   outside : (m : ℕ) → between 1 c.stops m ≡ false → get_or c.visits m blank_visit ≡ blank_visit
-  outside m e = blank _ (ap (λ t. cond t (visit_fits (visit_at c m)) (visit_blank (visit_at c m))) (sym e) ∙ ok m)
+  outside m e = let here = ok m in blank _ (grind (arith, nat_tests))
 
   inside : (m : ℕ) → 1 ≤ m → m ≤ c.stops → visit_fits (visit_at c m) ≡ true
-  inside m l h = ap (λ t. cond t (visit_fits (visit_at c m)) (visit_blank (visit_at c m))) (sym (and_from (leb 1 m) (leb m c.stops) (le-leb 1 m l) (le-leb m c.stops h))) ∙ ok m
+  inside m l h = let here = ok m in grind (arith, nat_tests)
 
   -- the stops below j are said, and no leg
   abbrev pub Said : ℕ → Contents

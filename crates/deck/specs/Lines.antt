@@ -4,7 +4,7 @@ use Rattle.stops.specs.Stops.{most_stops}
 use Rattle.text.specs.Readers.{Reader, and_then, give, repeated}
 use Rattle.words.specs.declared.vocabulary.Keyword.{Keyword}
 use Rattle.words.specs.declared.vocabulary.Keyword.TheVariants.{Deck, Stops, Vans, Capacity, Battery, Most, Stop, Window, Load, Charger, Legs, End}
-use Rattle.form.specs.declared.due.Mark.TheVariants.{Close, Blank}
+use Rattle.text.specs.declared.token.Mark.TheVariants.{Close, Blank}
 use Rattle.form.specs.Forms.{same, mark_due}
 use Rattle.bounds.specs.declared.fault.BookFault.{BookFault}
 use Rattle.bounds.specs.declared.fault.BookFault.TheVariants.{Form}

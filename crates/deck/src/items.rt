@@ -1,52 +1,25 @@
 //! Items of a line: a name and a number in brackets.
 ghost use Rattle.std.specs.Prelude.{◌≡◌};
+ghost use Rattle.std.specs.Range.{range_inclusive_start, range_inclusive_end};
 ghost use Rattle.text.specs.Readers.{Read};
-ghost use Rattle.form.specs.Forms.{same};
 ghost use Rattle.deck.specs.Lines.{item};
 
-use bounds::{BookFault, due_u8, due_u16, due_usize, open_item};
+use bounds::{BookFault, Natural, due_within, open_item};
 use form::{FormFault, Mark, due_mark};
+use std::ops::RangeInclusive;
 use text::Cursor;
 use words::Keyword;
 
-pub(crate) fn item_u8(
+/// ` (NAME NUMBER)`
+pub(crate) fn read_item<N: Natural>(
     cursor: &mut Cursor,
     name: Keyword,
-    least: u8,
-    most: u8,
-) -> Result<u8, BookFault>
-    ensures { Read same cursor.old cursor.new result (item name least most) }
+    range: RangeInclusive<N>,
+) -> Result<N, BookFault>
+    ensures { Read N.value cursor.old cursor.new result (item name (N.value (range_inclusive_start range)) (N.value (range_inclusive_end range))) }
 {
     open_item(cursor, name)?;
-    let n = due_u8(cursor, least, most)?;
-    due_mark(cursor, Mark::Close)?;
-    Ok(n)
-}
-
-pub(crate) fn item_u16(
-    cursor: &mut Cursor,
-    name: Keyword,
-    least: u16,
-    most: u16,
-) -> Result<u16, BookFault>
-    ensures { Read same cursor.old cursor.new result (item name least most) }
-{
-    open_item(cursor, name)?;
-    let n = due_u16(cursor, least, most)?;
-    due_mark(cursor, Mark::Close)?;
-    Ok(n)
-}
-
-pub(crate) fn item_usize(
-    cursor: &mut Cursor,
-    name: Keyword,
-    least: usize,
-    most: usize,
-) -> Result<usize, BookFault>
-    ensures { Read same cursor.old cursor.new result (item name least most) }
-{
-    open_item(cursor, name)?;
-    let n = due_usize(cursor, least, most)?;
+    let n = due_within(cursor, range)?;
     due_mark(cursor, Mark::Close)?;
     Ok(n)
 }

@@ -7,12 +7,11 @@ use Rattle.text.specs.Tokens.{Seen, opens, closes, blanks, feeds, word, number, 
 use Rattle.text.specs.Readers.{and_then}
 use Rattle.text.proofs.Trips.{all_letters, NoLetter, Any, scan_is, scan_spelt, scan_sound, written, Spent, SoundAt, Sounds, Takes, sounds_then}
 use Rattle.words.specs.declared.vocabulary.Keyword.{Keyword}
-use Rattle.words.specs.declared.vocabulary.Keyword.TheVariants.{Deck, Stops, Vans, Capacity, Battery, Most, Stop, Window, Load, Charger, Legs, End, Pile, Round, Town, Price, Set, Tighten}
-use Rattle.form.specs.declared.due.Mark.{Mark}
-use Rattle.form.specs.declared.due.Mark.TheVariants.{Open, Close, Blank, Feed}
+use Rattle.text.specs.declared.token.Mark.{Mark}
+use Rattle.text.specs.declared.token.Mark.TheVariants.{Open, Close, Blank, Feed}
 use Rattle.form.specs.declared.fault.FormFault.TheVariants.{Text}
 use Rattle.words.specs.Vocabulary.{spelt, keyword_of}
-use Rattle.words.proofs.Inverse.{keyword_spelt, spells_found, Spells, some_letters}
+use Rattle.words.proofs.Inverse.{of_each, keyword_spelt, spells_found, Spells, some_letters}
 use Rattle.form.specs.Forms.{undue_of, told, byte_of, unless, mark_due, word_is, word_due, found, name_is, name_due, number_is, number_due}
 
 some_byte : (due : Mark) → 0 < byte_of due
@@ -81,24 +80,7 @@ mark_takes Blank = record { taken = λ bs p rest e c. rw (scan_is bs p 32 rest e
 mark_takes Feed = record { taken = λ bs p rest e c. rw (scan_is bs p 10 rest e) }
 
 letters : (k : Keyword) → all_letters (spelt k) ≡ true
-letters Deck = refl
-letters Stops = refl
-letters Vans = refl
-letters Capacity = refl
-letters Battery = refl
-letters Most = refl
-letters Stop = refl
-letters Window = refl
-letters Load = refl
-letters Charger = refl
-letters Legs = refl
-letters End = refl
-letters Pile = refl
-letters Round = refl
-letters Town = refl
-letters Price = refl
-letters Set = refl
-letters Tighten = refl
+letters k = of_each (λ j. all_letters (spelt j)) refl k
 
 pub word_takes : (due : Keyword) → Takes (word_due due) NoLetter (spelt due) tt
 word_takes due = record { taken = λ bs p rest e c. rw (scan_spelt bs p (spelt due) rest e (letters due) (some_letters due) c, (bytes_eq-Decides (spelt due) (spelt due)).1 refl) }

@@ -1,15 +1,14 @@
 -- Which token is due, and the fault where another stands: 15 for a word in no form, else 14.
-use Rattle.std.specs.Prelude.{ℕ, Bool, true, false, cond, Some, None, Ok, Err, Option, Result, ◌==◌}
+use Rattle.std.specs.Prelude.{ℕ, Bool, true, false, cond, Some, None, Ok, Err, Option, Result, ◌==◌, ℤ, unsigned_abs}
+use Rattle.std.specs.Int.{is_negative}
 use Rattle.std.specs.Str.{bytes_eq}
+use Rattle.text.specs.declared.token.Mark.{Mark}
+use Rattle.text.specs.declared.token.Mark.TheVariants.{Open, Close, Blank, Feed}
 use Rattle.text.specs.Tokens.{Seen, opens, closes, blanks, feeds, word, number, negative, ends, scan, amount_at}
 use Rattle.text.specs.Readers.{Reader, then}
 use Rattle.words.specs.declared.vocabulary.Keyword.{Keyword}
 use Rattle.words.specs.Vocabulary.{spelt, keyword_of}
-use Rattle.form.specs.declared.due.Mark.{Mark}
-use Rattle.form.specs.declared.due.Mark.TheVariants.{Open, Close, Blank, Feed}
-use Rattle.form.specs.declared.due.Name.{Name}
-use Rattle.form.specs.declared.due.Numeral.{Numeral}
-use Rattle.form.specs.declared.due.Amount.{Amount}
+use Rattle.form.specs.declared.placed.Placed.{Placed}
 use Rattle.form.specs.declared.fault.FormFault.{FormFault}
 use Rattle.form.specs.declared.fault.FormFault.TheVariants.{Text, NotDue, NoForm}
 
@@ -72,8 +71,8 @@ abbrev pub word_due : Keyword → Reader (Unit {0}) FormFault
 word_due due bs p = then Text (scan bs p) (word_is due)
 
 -- a word with its place
-abbrev pub named : Name → Keyword × ℕ
-named n = (n.word, n.place)
+abbrev pub named : Placed Keyword → Keyword × ℕ
+named n = (n.value, n.place)
 
 abbrev pub found : Option Keyword → ℕ → ℕ → Result ((Keyword × ℕ) × ℕ) FormFault
 found None p q = Err (NoForm p)
@@ -96,7 +95,7 @@ name_due bs p = then Text (scan bs p) name_is
 -- NUMBERS
 
 -- a number with its place
-abbrev pub numeral : Numeral → ℕ × ℕ
+abbrev pub numeral : Placed ℕ → ℕ × ℕ
 numeral n = (n.value, n.place)
 
 abbrev pub number_is : Seen → ℕ → Result ((ℕ × ℕ) × ℕ) FormFault
@@ -113,8 +112,8 @@ abbrev pub number_due : Reader (ℕ × ℕ) FormFault
 number_due bs p = then Text (scan bs p) number_is
 
 -- an amount: whether it is negative, its size, and its place
-abbrev pub signed : Amount → Bool × ℕ × ℕ
-signed a = (a.negative, a.size, a.place)
+abbrev pub signed : Placed ℤ → Bool × ℕ × ℕ
+signed a = (is_negative a.value, unsigned_abs a.value, a.place)
 
 abbrev pub amount_is : Seen → ℕ → Result ((Bool × ℕ × ℕ) × ℕ) FormFault
 amount_is (opens p) q = Err (NotDue p)

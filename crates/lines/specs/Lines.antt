@@ -7,7 +7,7 @@ use Rattle.text.specs.Readers.{Reader, then, and_then, give}
 use Rattle.words.specs.declared.vocabulary.Keyword.{Keyword}
 use Rattle.words.specs.declared.vocabulary.Keyword.TheVariants.{Pile, Round, Town, Price, Set, Tighten}
 use Rattle.words.specs.Vocabulary.{same_word}
-use Rattle.form.specs.declared.due.Mark.TheVariants.{Open, Blank}
+use Rattle.text.specs.declared.token.Mark.TheVariants.{Open, Blank}
 use Rattle.form.specs.declared.fault.FormFault.{FormFault}
 use Rattle.form.specs.declared.fault.FormFault.TheVariants.{Text, NotDue}
 use Rattle.form.specs.Forms.{same, undue_of, mark_due, name_due, number_due, amount_due}

@@ -1,4 +1,4 @@
-//! The lines that follow a deck: the pile, and the calls.
+//! The lines that follow a deck, the pile and the calls: their definitions, in `specs/`.
 #![tactic(auto)]
 
 mod pile;

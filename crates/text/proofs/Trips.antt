@@ -1,41 +1,33 @@
 -- What is written is read back, and what is read is what would be written.
-use Rattle.std.proofs.Common.{◌≡◌, ℕ, suc, ◌+◌, ◌-◌, ◌^◌, ◌<◌, ◌≤◌, Bool, true, false, cond, ◌&&◌, eqb, ltb, List, [], ◌∷◌, ◌++◌, length, get_or, take, drop, Ok, Err, decimal, Result, sym, refl, ap, ◌∙◌, subst, ⊎_elim, append_assoc, add-zero, one-add, arith, length-append, length-drop, rules}
-use Rattle.std.specs.List.{prefix_len}
+use Rattle.std.proofs.Common.{◌≡◌, ℕ, suc, ◌+◌, ◌-◌, ◌^◌, ◌<◌, ◌≤◌, Bool, true, false, eqb, ltb, List, [], ◌∷◌, ◌++◌, length, get_or, drop, Ok, Err, decimal, Result, sym, refl, ap, ◌∙◌, subst, ⊎_elim, append_assoc, add-zero, arith, length-append, length-drop}
+use Rattle.std.specs.List.{prefix_len, list_all}
 use Rattle.std.proofs.lemmas.List.{get_or-drop, drop-drop, drop_more, take-append-drop, take_at, drop_at}
+use Rattle.std.proofs.lemmas.List.Folds.{length-prefix_len}
 use Rattle.std.proofs.lemmas.Bool.{cond_both, ltb-true, lt-ltb, eqb-true, cases_lt}
 use Rattle.std.proofs.lemmas.Bool.Decides.{nat_tests}
-use Rattle.std.proofs.lemmas.Str.Parse.{IsNumeralModel, numerals_by_fold, digits_value_short}
+use Rattle.std.proofs.lemmas.Str.Parse.{digits_value_short}
 use Rattle.std.proofs.lemmas.Fmt.{digits_decimal, digits_value-decimal, decimal-digits_value, decimal_nonempty, first_decimal, length-decimal-le, decimal_digit}
-use Rattle.text.specs.declared.runs.Class.{Class}
-use Rattle.text.specs.declared.runs.Class.TheVariants.{Letter, Digit}
 use Rattle.text.specs.declared.fault.TextFault.{TextFault}
-use Rattle.text.specs.Tokens.{Seen, opens, closes, blanks, feeds, word, number, negative, ends, in_class, read_on, value_of, front, well_formed, word_at, number_at, token, scan}
+use Rattle.text.specs.Tokens.{Seen, opens, closes, blanks, feeds, word, number, negative, ends, is_letter, is_digit, front, well_formed, word_at, number_at, token, scan}
 use Rattle.text.specs.declared.cursor.Cursor.{Cursor}
 use Rattle.text.specs.Readers.{Reader, Read, then, and_then, give}
-use Rattle.text.proofs.Fronts.{length_front}
-
-abbrev pub all_in : Class → List ℕ → Bool
-all_in k [] = true
-all_in k (x ∷ xs) = in_class k x && all_in k xs
+use Rattle.text.proofs.Fronts.{own, all_front}
 
 abbrev pub all_letters : List ℕ → Bool
-all_letters w = all_in Letter w
+all_letters w = list_all is_letter w
 
 -- what follows does not lengthen a word, or a number
 abbrev pub NoLetter : List ℕ → Type 0
-NoLetter rest = in_class Letter (get_or rest 0 0) ≡ false
+NoLetter rest = is_letter (get_or rest 0 0) ≡ false
 
 abbrev pub NoDigit : List ℕ → Type 0
-NoDigit rest = in_class Digit (get_or rest 0 0) ≡ false
+NoDigit rest = is_digit (get_or rest 0 0) ≡ false
 
 abbrev pub Any : List ℕ → Type 0
 Any rest = Unit {0}
 
-own : IsNumeralModel (λ ds. all_in Digit ds ≡ true) value_of
-own = numerals_by_fold _ (search rules) read_on (search rules)
-
 -- the run of a class is just w
-leading_exact : (k : Class) (w rest : List ℕ) → all_in k w ≡ true → in_class k (get_or rest 0 0) ≡ false → prefix_len (in_class k) (w ++ rest) ≡ length w
+leading_exact : (k : ℕ → Bool) (w rest : List ℕ) → list_all k w ≡ true → k (get_or rest 0 0) ≡ false → prefix_len k (w ++ rest) ≡ length w
 leading_exact k [] [] h l = refl
 leading_exact k [] (x ∷ rest) h l = rw l
 leading_exact k (x ∷ w) rest h l = let e = leading_exact k w rest in grind arith
@@ -58,20 +50,20 @@ byte bs p c rest e =
 pub scan_is : (bs : List ℕ) (p c : ℕ) (rest : List ℕ) → drop p bs ≡ c ∷ rest → scan bs p ≡ token bs p c
 scan_is bs p c rest e = let b = byte bs p c rest e in rw (lt-ltb p (length bs) b.inside, b.is)
 
-front_exact : (k : Class) (w rest : List ℕ) → all_in k w ≡ true → in_class k (get_or rest 0 0) ≡ false → front k (w ++ rest) ≡ w
+front_exact : (k : ℕ → Bool) (w rest : List ℕ) → list_all k w ≡ true → k (get_or rest 0 0) ≡ false → front k (w ++ rest) ≡ w
 front_exact k w rest h l = let n = leading_exact k w rest h l in rw n (take_at w rest (length w) refl)
 
-pub scan_word : (bs : List ℕ) (p c : ℕ) (w rest : List ℕ) → drop p bs ≡ (c ∷ w) ++ rest → all_in Letter (c ∷ w) ≡ true → in_class Letter (get_or rest 0 0) ≡ false → scan bs p ≡ Ok (word (c ∷ w) p, p + length (c ∷ w))
+pub scan_word : (bs : List ℕ) (p c : ℕ) (w rest : List ℕ) → drop p bs ≡ (c ∷ w) ++ rest → list_all is_letter (c ∷ w) ≡ true → is_letter (get_or rest 0 0) ≡ false → scan bs p ≡ Ok (word (c ∷ w) p, p + length (c ∷ w))
 scan_word bs p c w rest e h l =
-    let first : in_class Letter c ≡ true = grind arith in
+    let first : is_letter c ≡ true = grind arith in
     let tok : token bs p c ≡ word_at bs p = grind (arith, nat_tests) in
-    scan_is bs p c (w ++ rest) e ∙ tok ∙ rw (e, front_exact Letter (c ∷ w) rest h l, leading_exact Letter (c ∷ w) rest h l)
+    scan_is bs p c (w ++ rest) e ∙ tok ∙ rw (e, front_exact is_letter (c ∷ w) rest h l, leading_exact is_letter (c ∷ w) rest h l)
 
 pub scan_spelt : (bs : List ℕ) (p : ℕ) (w rest : List ℕ) → drop p bs ≡ w ++ rest → all_letters w ≡ true → 0 < length w → NoLetter rest → scan bs p ≡ Ok (word w p, p + length w)
 scan_spelt bs p [] rest e h some l = absurd (omega arith)
 scan_spelt bs p (c ∷ w) rest e h some l = scan_word bs p c w rest e h l
 
-digit_token : (bs : List ℕ) (p c : ℕ) → in_class Digit c ≡ true → token bs p c ≡ number_at bs p
+digit_token : (bs : List ℕ) (p c : ℕ) → is_digit c ≡ true → token bs p c ≡ number_at bs p
 digit_token bs p c h = grind (arith, nat_tests)
 
 -- a number of at most ten digits
@@ -89,15 +81,15 @@ scan_number bs p n rest e h l =
     let all = digits_decimal own n small in
     let some = decimal_nonempty n small in
     let fine = well_formed_decimal n h in
-    let f = front_exact Digit (decimal n) rest all l in
-    let len = leading_exact Digit (decimal n) rest all l in
+    let f = front_exact is_digit (decimal n) rest all l in
+    let len = leading_exact is_digit (decimal n) rest all l in
     let worth = digits_value-decimal own n small in
     let num : number_at bs p ≡ Ok (number n (decimal n) p, p + length (decimal n)) = rw (e, f, len, fine, worth) in
     head (decimal n) refl all some e ∙ num
   where
-    head : (ds : List ℕ) → ds ≡ decimal n → all_in Digit ds ≡ true → 0 < length ds → drop p bs ≡ ds ++ rest → scan bs p ≡ number_at bs p
+    head : (ds : List ℕ) → ds ≡ decimal n → list_all is_digit ds ≡ true → 0 < length ds → drop p bs ≡ ds ++ rest → scan bs p ≡ number_at bs p
     head [] s a b d = absurd (omega arith)
-    head (c ∷ ds) s a b d = let first : in_class Digit c ≡ true = grind arith in scan_is bs p c (ds ++ rest) d ∙ digit_token bs p c first
+    head (c ∷ ds) s a b d = let first : is_digit c ≡ true = grind arith in scan_is bs p c (ds ++ rest) d ∙ digit_token bs p c first
 
 -- how a token is written
 abbrev pub written : Seen → List ℕ
@@ -125,33 +117,25 @@ Written t xs = xs ≡ written t
 one_byte : (bs : List ℕ) (p c : ℕ) → p < length bs → eqb (get_or bs p 0) c ≡ true → Spent bs p (p + 1) (c ∷ [])
 one_byte bs p c h e = record { spent = drop_more bs p 0 h ∙ rw (eqb-true (get_or bs p 0) c e); to = refl }
 
-a_run : (k : Class) (bs : List ℕ) (p : ℕ) → Spent bs p (p + prefix_len (in_class k) (drop p bs)) (front k (drop p bs))
+a_run : (k : ℕ → Bool) (bs : List ℕ) (p : ℕ) → Spent bs p (p + prefix_len k (drop p bs)) (front k (drop p bs))
 a_run k bs p = record {
-  spent = sym (take-append-drop (prefix_len (in_class k) (drop p bs)) (drop p bs)) ∙ ap (λ l. front k (drop p bs) ++ l) (drop-drop (prefix_len (in_class k) (drop p bs)) p bs);
-  to = ap (λ n. p + n) (sym (length_front k (drop p bs)));
+  spent = sym (take-append-drop (prefix_len k (drop p bs)) (drop p bs)) ∙ ap (λ l. front k (drop p bs) ++ l) (drop-drop (prefix_len k (drop p bs)) p bs);
+  to = ap (λ n. p + n) (sym (length-prefix_len k (drop p bs)));
 }
 
-all_front : (k : Class) (xs : List ℕ) → all_in k (front k xs) ≡ true
-all_front k [] = refl
-all_front k (x ∷ xs) = by (all_front k xs) (in_class k x) refl
-  where
-    by : all_in k (front k xs) ≡ true → (b : Bool) → in_class k x ≡ b → all_in k (take (cond b (1 + prefix_len (in_class k) xs) 0) (x ∷ xs)) ≡ true
-    by more true e = rw (one-add (prefix_len (in_class k) xs), e) more
-    by more false e = refl
-
 -- a well-formed run of digits is what is written of its number
-number_sound : (bs : List ℕ) (p : ℕ) → p < length bs → in_class Digit (get_or bs p 0) ≡ true → SoundAt Written bs p (number_at bs p)
+number_sound : (bs : List ℕ) (p : ℕ) → p < length bs → is_digit (get_or bs p 0) ≡ true → SoundAt Written bs p (number_at bs p)
 number_sound bs p h d =
-    let ds = front Digit (drop p bs) in
+    let ds = front is_digit (drop p bs) in
     cond_both (well_formed ds) _ _ (SoundAt Written bs p)
     (λ fine.
-    let some : 0 < prefix_len (in_class Digit) (drop p bs) = rw (drop_more bs p 0 h, d) (omega arith) in
-    let long = length_front Digit (drop p bs) in
+    let some : 0 < prefix_len is_digit (drop p bs) = rw (drop_more bs p 0 h, d) (omega arith) in
+    let long = length-prefix_len is_digit (drop p bs) in
     let few : length ds ≤ 10 = grind (arith, nat_tests) in
     let lead : get_or ds 0 0 ≡ 48 → length ds ≡ 1 = λ z. grind (arith, nat_tests) in
-    let all = all_front Digit (drop p bs) in
+    let all = all_front is_digit (drop p bs) in
     let small = digits_value_short own ds 10 all few in
-    (ds, a_run Digit bs p, sym (decimal-digits_value own ds all (omega arith) lead (omega arith))))
+    (ds, a_run is_digit bs p, sym (decimal-digits_value own ds all (omega arith) lead (omega arith))))
     (λ _. tt)
 
 pub scan_sound : (bs : List ℕ) (p : ℕ) → SoundAt Written bs p (scan bs p)
@@ -164,8 +148,8 @@ scan_sound bs p =
     cond_both (eqb c 41) _ _ S (λ e. (41 ∷ [], one_byte bs p 41 h e, refl)) (λ _.
     cond_both (eqb c 32) _ _ S (λ e. (32 ∷ [], one_byte bs p 32 h e, refl)) (λ _.
     cond_both (eqb c 10) _ _ S (λ e. (10 ∷ [], one_byte bs p 10 h e, refl)) (λ _.
-    cond_both (in_class Letter c) _ _ S (λ _. (front Letter (drop p bs), a_run Letter bs p, refl)) (λ _.
-    cond_both (in_class Digit c) _ _ S (λ d. number_sound bs p h d) (λ _.
+    cond_both (is_letter c) _ _ S (λ _. (front is_letter (drop p bs), a_run is_letter bs p, refl)) (λ _.
+    cond_both (is_digit c) _ _ S (λ d. number_sound bs p h d) (λ _.
     cond_both (eqb c 45) _ _ S (λ _. tt) (λ _. tt))))))))
     (λ _. ([], record { spent = refl; to = sym (add-zero p) }, refl))
 

@@ -1,8 +1,7 @@
 //! Numbers in decimal digits.
-ghost use Rattle.std.specs.Prelude.{◌≡◌, ℕ, ◌<◌, ◌≤◌, true, length, slice_index};
-ghost use Rattle.text.specs.Tokens.{in_class, value_of, well_formed, non_zero};
-
-use super::runs::Class;
+ghost use Rattle.std.specs.Prelude.{◌≡◌, ◌^◌, ◌<◌, ◌≤◌, true, length};
+ghost use Rattle.std.specs.List.{list_all};
+ghost use Rattle.text.specs.Tokens.{is_digit, value_of, well_formed, non_zero};
 
 /// Of a number.
 const MOST_DIGITS: usize = 10;
@@ -11,24 +10,25 @@ const MOST_DIGITS: usize = 10;
 pub(crate) fn is_well_formed(digits: &[u8]) -> bool
     ensures { result ≡ well_formed digits.now }
 {
-    digits.len() <= MOST_DIGITS && (digits.len() <= 1 || digits[0] != b'0')
+    digits.len() <= MOST_DIGITS && !matches!(digits, [b'0', _, ..])
 }
 
 /// Whether a run of digits is a number other than 0.
 pub(crate) fn is_non_zero(digits: &[u8]) -> bool
     ensures { result ≡ non_zero digits.now }
 {
-    1 <= digits.len() && digits.len() <= MOST_DIGITS && digits[0] != b'0'
+    digits.len() <= MOST_DIGITS && !matches!(digits, [] | [b'0', ..])
 }
 
 /// The number that at most ten digits write.
 pub(crate) fn value(digits: &[u8]) -> u64
-    requires { (length digits.now ≤ 10) × (((k : ℕ) → k < length digits.now → in_class Class.Digit (slice_index digits.now k) ≡ true)) }
-    ensures { result ≡ value_of digits.now }
+    requires few { length digits.now ≤ 10 }
+    requires digits { list_all is_digit digits.now ≡ true }
+    ensures value { result ≡ value_of digits.now }
+    ensures small { result < 10 ^ 10 }
+    ensures positive { non_zero digits.now ≡ true → 0 < result }
 {
-    let mut n: u64 = 0;
-    for digit in digits {
-        n = n * 10 + u64::from(*digit - b'0');
-    }
-    n
+    digits
+        .iter()
+        .fold(0, |n, digit| n * 10 + u64::from(*digit - b'0'))
 }

@@ -10,4 +10,4 @@ mod token;
 
 pub use cursor::Cursor;
 pub use fault::TextFault;
-pub use token::Token;
+pub use token::{Mark, Token};

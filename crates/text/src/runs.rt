@@ -1,40 +1,16 @@
-//! Runs of letters and of digits.
-ghost use Rattle.std.specs.Prelude.{◌≡◌, ℕ, ◌+◌, ◌≤◌, length, drop};
-ghost use Rattle.std.specs.List.{prefix_len};
-ghost use Rattle.text.specs.Tokens.{in_class};
+//! Runs of bytes.
+ghost use Rattle.std.specs.Prelude.{◌≡◌, ℕ, ◌≤◌, Bool, true, length};
+ghost use Rattle.std.specs.Iterator.{ActsAsAt};
+ghost use Rattle.std.specs.List.{list_all};
+ghost use Rattle.text.specs.Tokens.{front};
 
-/// The bytes of which words and numbers are made.
-#[derive(Clone, Copy)]
-pub(crate) enum Class {
-    /// a to z
-    Letter,
-    /// 0 to 9
-    Digit,
-}
-
-fn belongs(class: Class, byte: u8) -> bool
-    ensures { result ≡ in_class class byte }
+/// The longest front of a text whose bytes all pass a test.
+pub(crate) fn front<P: FnMut(&u8) -> bool>(text: &[u8], passes: P) -> &[u8]
+    requires { (state : P) (x : _) → P.pre state x }
+    ensures longest { (p : ℕ → Bool) → ActsAsAt P.FnMut passes p → result.now ≡ front p text.now }
+    ensures passing { (p : ℕ → Bool) → ActsAsAt P.FnMut passes p → list_all p result.now ≡ true }
+    ensures within { length result.now ≤ length text.now }
 {
-    match class {
-        Class::Letter => match char::from(byte) {
-            'a'..='z' => true,
-            _ => false,
-        },
-        Class::Digit => match char::from(byte) {
-            '0'..='9' => true,
-            _ => false,
-        },
-    }
-}
-
-/// How many bytes of a class stand in a row at `from`.
-pub(crate) fn run(text: &[u8], from: usize, class: Class) -> usize
-    ensures count { result ≡ prefix_len (in_class class) (drop from text.now) }
-    ensures within { from ≤ length text.now → from + result ≤ length text.now }
-{
-    let mut end = from;
-    while end < text.len() && belongs(class, text[end]) {
-        end += 1;
-    }
-    end - from
+    let n = text.iter().copied().take_while(passes).count();
+    &text[..n]
 }

@@ -1,11 +1,38 @@
 -- Spelling a word and looking it up are each other's inverse.
-use Rattle.std.proofs.Common.{◌≡◌, ℕ, ◌<◌, true, List, length, Some, None, Option, refl, arith}
+use Rattle.std.proofs.Common.{◌≡◌, ℕ, ◌<◌, Bool, true, ltb, List, [], ◌∷◌, length, Some, None, Option, refl, lit<}
+use Rattle.std.specs.List.{find, list_all, Contains}
 use Rattle.std.specs.Str.{bytes_eq}
 use Rattle.std.proofs.lemmas.Slice.Eq.{bytes_eq-Decides}
-use Rattle.std.proofs.lemmas.Bool.{cond_both}
+use Rattle.std.proofs.lemmas.Bool.{cond_both, ltb-true}
+use Rattle.std.proofs.lemmas.List.Elements.{All-contains}
+use Rattle.std.proofs.lemmas.List.Sums.{AllPass-from_list_all}
 use Rattle.words.specs.declared.vocabulary.Keyword.{Keyword}
 use Rattle.words.specs.declared.vocabulary.Keyword.TheVariants.{Deck, Stops, Vans, Capacity, Battery, Most, Stop, Window, Load, Charger, Legs, End, Pile, Round, Town, Price, Set, Tighten}
-use Rattle.words.specs.Vocabulary.{spelt, keyword_of, same_word}
+use Rattle.words.specs.Vocabulary.{spelt, words, keyword_of, same_word}
+
+-- what passes a test of all words
+pub of_each : (p : Keyword → Bool) → list_all p words ≡ true → (k : Keyword) → p k ≡ true
+of_each p h k = All-contains (λ j. p j ≡ true) words k (AllPass-from_list_all p words h) (one k)
+  where
+    one : (j : Keyword) → Contains words j
+    one Deck = (0, lit< tt, refl)
+    one Stops = (1, lit< tt, refl)
+    one Vans = (2, lit< tt, refl)
+    one Capacity = (3, lit< tt, refl)
+    one Battery = (4, lit< tt, refl)
+    one Most = (5, lit< tt, refl)
+    one Stop = (6, lit< tt, refl)
+    one Window = (7, lit< tt, refl)
+    one Load = (8, lit< tt, refl)
+    one Charger = (9, lit< tt, refl)
+    one Legs = (10, lit< tt, refl)
+    one End = (11, lit< tt, refl)
+    one Pile = (12, lit< tt, refl)
+    one Round = (13, lit< tt, refl)
+    one Town = (14, lit< tt, refl)
+    one Price = (15, lit< tt, refl)
+    one Set = (16, lit< tt, refl)
+    one Tighten = (17, lit< tt, refl)
 
 pub keyword_spelt : (k : Keyword) → keyword_of (spelt k) ≡ Some k
 keyword_spelt Deck = refl
@@ -33,26 +60,11 @@ Spells w (Some k) = w ≡ spelt k
 
 -- bytes that are looked up are the spelling of what is found
 pub spells_found : (w : List ℕ) → Spells w (keyword_of w)
-spells_found w =
-    cond_both (bytes_eq w (spelt Deck)) _ _ (Spells w) (λ e. (bytes_eq-Decides w (spelt Deck)).0 e)
-    (λ _. cond_both (bytes_eq w (spelt Stops)) _ _ (Spells w) (λ e. (bytes_eq-Decides w (spelt Stops)).0 e)
-    (λ _. cond_both (bytes_eq w (spelt Vans)) _ _ (Spells w) (λ e. (bytes_eq-Decides w (spelt Vans)).0 e)
-    (λ _. cond_both (bytes_eq w (spelt Capacity)) _ _ (Spells w) (λ e. (bytes_eq-Decides w (spelt Capacity)).0 e)
-    (λ _. cond_both (bytes_eq w (spelt Battery)) _ _ (Spells w) (λ e. (bytes_eq-Decides w (spelt Battery)).0 e)
-    (λ _. cond_both (bytes_eq w (spelt Most)) _ _ (Spells w) (λ e. (bytes_eq-Decides w (spelt Most)).0 e)
-    (λ _. cond_both (bytes_eq w (spelt Stop)) _ _ (Spells w) (λ e. (bytes_eq-Decides w (spelt Stop)).0 e)
-    (λ _. cond_both (bytes_eq w (spelt Window)) _ _ (Spells w) (λ e. (bytes_eq-Decides w (spelt Window)).0 e)
-    (λ _. cond_both (bytes_eq w (spelt Load)) _ _ (Spells w) (λ e. (bytes_eq-Decides w (spelt Load)).0 e)
-    (λ _. cond_both (bytes_eq w (spelt Charger)) _ _ (Spells w) (λ e. (bytes_eq-Decides w (spelt Charger)).0 e)
-    (λ _. cond_both (bytes_eq w (spelt Legs)) _ _ (Spells w) (λ e. (bytes_eq-Decides w (spelt Legs)).0 e)
-    (λ _. cond_both (bytes_eq w (spelt End)) _ _ (Spells w) (λ e. (bytes_eq-Decides w (spelt End)).0 e)
-    (λ _. cond_both (bytes_eq w (spelt Pile)) _ _ (Spells w) (λ e. (bytes_eq-Decides w (spelt Pile)).0 e)
-    (λ _. cond_both (bytes_eq w (spelt Round)) _ _ (Spells w) (λ e. (bytes_eq-Decides w (spelt Round)).0 e)
-    (λ _. cond_both (bytes_eq w (spelt Town)) _ _ (Spells w) (λ e. (bytes_eq-Decides w (spelt Town)).0 e)
-    (λ _. cond_both (bytes_eq w (spelt Price)) _ _ (Spells w) (λ e. (bytes_eq-Decides w (spelt Price)).0 e)
-    (λ _. cond_both (bytes_eq w (spelt Set)) _ _ (Spells w) (λ e. (bytes_eq-Decides w (spelt Set)).0 e)
-    (λ _. cond_both (bytes_eq w (spelt Tighten)) _ _ (Spells w) (λ e. (bytes_eq-Decides w (spelt Tighten)).0 e)
-    (λ _. tt))))))))))))))))))
+spells_found w = among words
+  where
+    among : (ks : List Keyword) → Spells w (find (λ k. bytes_eq w (spelt k)) ks)
+    among [] = tt
+    among (k ∷ ks) = cond_both (bytes_eq w (spelt k)) _ _ (Spells w) (λ e. (bytes_eq-Decides w (spelt k)).0 e) (λ _. among ks)
 
 pub spelt_keyword : (w : List ℕ) (k : Keyword) → keyword_of w ≡ Some k → w ≡ spelt k
 spelt_keyword w k e = rw e at (spells_found w)
@@ -65,21 +77,4 @@ same_as_itself k = (bytes_eq-Decides (spelt k) (spelt k)).1 refl
 
 -- no word is without letters
 pub some_letters : (k : Keyword) → 0 < length (spelt k)
-some_letters Deck = omega arith
-some_letters Stops = omega arith
-some_letters Vans = omega arith
-some_letters Capacity = omega arith
-some_letters Battery = omega arith
-some_letters Most = omega arith
-some_letters Stop = omega arith
-some_letters Window = omega arith
-some_letters Load = omega arith
-some_letters Charger = omega arith
-some_letters Legs = omega arith
-some_letters End = omega arith
-some_letters Pile = omega arith
-some_letters Round = omega arith
-some_letters Town = omega arith
-some_letters Price = omega arith
-some_letters Set = omega arith
-some_letters Tighten = omega arith
+some_letters k = ltb-true 0 (length (spelt k)) (of_each (λ j. ltb 0 (length (spelt j))) refl k)

@@ -1,5 +1,6 @@
 -- The words of the forms, and how they are spelt.
-use Rattle.std.specs.Prelude.{ℕ, Bool, true, false, cond, List, Some, None, codes, Option}
+use Rattle.std.specs.Prelude.{ℕ, Bool, true, false, List, [], ◌∷◌, codes, Option}
+use Rattle.std.specs.List.{find}
 use Rattle.std.specs.Str.{bytes_eq}
 use Rattle.words.specs.declared.vocabulary.Keyword.{Keyword}
 use Rattle.words.specs.declared.vocabulary.Keyword.TheVariants.{Deck, Stops, Vans, Capacity, Battery, Most, Stop, Window, Load, Charger, Legs, End, Pile, Round, Town, Price, Set, Tighten}
@@ -26,28 +27,13 @@ spelt Price = codes "price"
 spelt Set = codes "set"
 spelt Tighten = codes "tighten"
 
+-- all of them
+abbrev pub words : List Keyword
+words = Deck ∷ Stops ∷ Vans ∷ Capacity ∷ Battery ∷ Most ∷ Stop ∷ Window ∷ Load ∷ Charger ∷ Legs ∷ End ∷ Pile ∷ Round ∷ Town ∷ Price ∷ Set ∷ Tighten ∷ []
+
 -- the word that bytes spell; none if it stands in no form
 abbrev pub keyword_of : List ℕ → Option Keyword
-keyword_of w =
-    cond (bytes_eq w (spelt Deck)) (Some Deck)
-    (cond (bytes_eq w (spelt Stops)) (Some Stops)
-    (cond (bytes_eq w (spelt Vans)) (Some Vans)
-    (cond (bytes_eq w (spelt Capacity)) (Some Capacity)
-    (cond (bytes_eq w (spelt Battery)) (Some Battery)
-    (cond (bytes_eq w (spelt Most)) (Some Most)
-    (cond (bytes_eq w (spelt Stop)) (Some Stop)
-    (cond (bytes_eq w (spelt Window)) (Some Window)
-    (cond (bytes_eq w (spelt Load)) (Some Load)
-    (cond (bytes_eq w (spelt Charger)) (Some Charger)
-    (cond (bytes_eq w (spelt Legs)) (Some Legs)
-    (cond (bytes_eq w (spelt End)) (Some End)
-    (cond (bytes_eq w (spelt Pile)) (Some Pile)
-    (cond (bytes_eq w (spelt Round)) (Some Round)
-    (cond (bytes_eq w (spelt Town)) (Some Town)
-    (cond (bytes_eq w (spelt Price)) (Some Price)
-    (cond (bytes_eq w (spelt Set)) (Some Set)
-    (cond (bytes_eq w (spelt Tighten)) (Some Tighten)
-    None)))))))))))))))))
+keyword_of w = find (λ k. bytes_eq w (spelt k)) words
 
 abbrev pub same_word : Keyword → Keyword → Bool
 same_word a b = bytes_eq (spelt a) (spelt b)

@@ -3,9 +3,10 @@ ghost use Rattle.std.specs.Prelude.{◌≡◌};
 ghost use Rattle.std.specs.Str.{bytes_eq};
 ghost use Rattle.words.specs.Vocabulary.{spelt, keyword_of};
 
-use super::vocabulary::Keyword;
+use super::vocabulary::{Keyword, WORDS};
 
 /// The bytes of a word.
+// No `Display`: a deck is bytes, and a word is compared with a part of them.
 pub fn spelling(word: Keyword) -> &'static [u8]
     ensures { result.now ≡ spelt word }
 {
@@ -31,60 +32,16 @@ pub fn spelling(word: Keyword) -> &'static [u8]
     }
 }
 
-fn same_bytes(a: &[u8], b: &[u8]) -> bool
-    ensures { result ≡ bytes_eq a.now b.now }
-{
-    a == b
-}
-
 /// Whether these are the bytes of a word.
 pub fn spells(bytes: &[u8], word: Keyword) -> bool
     ensures { result ≡ bytes_eq bytes.now (spelt word) }
 {
-    same_bytes(bytes, spelling(word))
+    bytes == spelling(word)
 }
 
 /// The word that these bytes spell, if it stands in some form.
 pub fn look_up(bytes: &[u8]) -> Option<Keyword>
     ensures { result ≡ keyword_of bytes.now }
 {
-    if spells(bytes, Keyword::Deck) {
-        Some(Keyword::Deck)
-    } else if spells(bytes, Keyword::Stops) {
-        Some(Keyword::Stops)
-    } else if spells(bytes, Keyword::Vans) {
-        Some(Keyword::Vans)
-    } else if spells(bytes, Keyword::Capacity) {
-        Some(Keyword::Capacity)
-    } else if spells(bytes, Keyword::Battery) {
-        Some(Keyword::Battery)
-    } else if spells(bytes, Keyword::Most) {
-        Some(Keyword::Most)
-    } else if spells(bytes, Keyword::Stop) {
-        Some(Keyword::Stop)
-    } else if spells(bytes, Keyword::Window) {
-        Some(Keyword::Window)
-    } else if spells(bytes, Keyword::Load) {
-        Some(Keyword::Load)
-    } else if spells(bytes, Keyword::Charger) {
-        Some(Keyword::Charger)
-    } else if spells(bytes, Keyword::Legs) {
-        Some(Keyword::Legs)
-    } else if spells(bytes, Keyword::End) {
-        Some(Keyword::End)
-    } else if spells(bytes, Keyword::Pile) {
-        Some(Keyword::Pile)
-    } else if spells(bytes, Keyword::Round) {
-        Some(Keyword::Round)
-    } else if spells(bytes, Keyword::Town) {
-        Some(Keyword::Town)
-    } else if spells(bytes, Keyword::Price) {
-        Some(Keyword::Price)
-    } else if spells(bytes, Keyword::Set) {
-        Some(Keyword::Set)
-    } else if spells(bytes, Keyword::Tighten) {
-        Some(Keyword::Tighten)
-    } else {
-        None
-    }
+    WORDS.iter().copied().find(|word| spells(bytes, *word))
 }

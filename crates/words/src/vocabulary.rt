@@ -1,11 +1,9 @@
 //! The vocabulary.
 ghost use Rattle.std.specs.Prelude.{◌≡◌};
-ghost use Rattle.words.specs.Vocabulary.{opens_line, same_word};
-
-use super::spellings::{spelling, spells};
+ghost use Rattle.words.specs.Vocabulary.{opens_line};
 
 /// A word of a form.
-#[derive(Clone, Copy)]
+#[derive(Clone, Copy, PartialEq, Eq)]
 pub enum Keyword {
     Deck,
     Stops,
@@ -27,28 +25,44 @@ pub enum Keyword {
     Tighten,
 }
 
-impl Keyword {
-    /// Whether it is the same word as another.
-    pub fn is(self, other: Keyword) -> bool
-        ensures { result ≡ same_word self other }
-    {
-        spells(spelling(self), other)
-    }
+/// All of them.
+// By hand: no derive lists the variants of an enum.
+pub(crate) const WORDS: [Keyword; 18] = [
+    Keyword::Deck,
+    Keyword::Stops,
+    Keyword::Vans,
+    Keyword::Capacity,
+    Keyword::Battery,
+    Keyword::Most,
+    Keyword::Stop,
+    Keyword::Window,
+    Keyword::Load,
+    Keyword::Charger,
+    Keyword::Legs,
+    Keyword::End,
+    Keyword::Pile,
+    Keyword::Round,
+    Keyword::Town,
+    Keyword::Price,
+    Keyword::Set,
+    Keyword::Tighten,
+];
 
+impl Keyword {
     /// Whether it is the name of a form that stands on a line of its own.
     pub fn opens_line(self) -> bool
         ensures { result ≡ opens_line self }
     {
-        match self {
+        matches!(
+            self,
             Keyword::Deck
-            | Keyword::Stop
-            | Keyword::Legs
-            | Keyword::End
-            | Keyword::Pile
-            | Keyword::Price
-            | Keyword::Set
-            | Keyword::Tighten => true,
-            _ => false,
-        }
+                | Keyword::Stop
+                | Keyword::Legs
+                | Keyword::End
+                | Keyword::Pile
+                | Keyword::Price
+                | Keyword::Set
+                | Keyword::Tighten
+        )
     }
 }
