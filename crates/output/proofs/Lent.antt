@@ -1,13 +1,13 @@
 -- What a slice holds after its rest was lent to a printer.
-use Rattle.std.proofs.Common.{◌≡◌, ℕ, ◌+◌, ◌-◌, ◌≤◌, false, cond, leb, List, [], ◌++◌, length, take, drop, IsErrAnd, Some, None, Ok, Err, Result, sym, refl, ap, ◌∙◌, append_assoc, arith, length-append, length-drop}
+use Rattle.std.proofs.Common.{◌≡◌, ℕ, ◌+◌, ◌-◌, ◌≤◌, leb, List, [], ◌++◌, length, take, drop, IsErrAnd, Some, Ok, Err, Result, sym, refl, ap, ◌∙◌, append_assoc, arith, length-append, length-drop}
 use borrow.Rule.Slice.PartMut.{put_mid}
-use Rattle.std.proofs.lemmas.List.{take_rest, drop-drop, drop_all, append-nil, take_at, drop_at, length-take-le, take-append-drop}
+use Rattle.std.proofs.lemmas.List.{take_rest, drop-drop, drop_all, append-nil, take_at, drop_at, length-take-le}
 use Rattle.std.proofs.lemmas.Bool.{le-leb, false≢true}
 use Rattle.std.proofs.lemmas.Result.{err_from_is_err_and}
 use Rattle.std.proofs.lemmas.Bool.Decides.{nat_tests}
 use Rattle.output.specs.declared.out.Out.{Out}
 use Rattle.output.specs.declared.out.Full.{Full}
-use Rattle.output.specs.Outputs.{fit, put, full, done, Printed, Wrote}
+use Rattle.output.specs.Outputs.{fit, put, done, Printed, Wrote}
 
 -- what fits says
 room : (bs : List ℕ) (n k : ℕ) → Some k ≡ fit bs n → (k ≡ length bs) × (length bs ≤ n)
@@ -26,8 +26,9 @@ module _ (o bs part : List ℕ) (len : ℕ) (inside : len + length bs ≤ length
   pub front_long : length (take len o ++ bs) ≡ len + length bs
   front_long = simp (length-append) (omega (arith, length-take-le len o (omega arith)))
 
-pub lent : (a b : Out) (bs part : List ℕ) (k : ℕ) → a.len ≤ length a.out.now → Printed (take (length a.out.now - a.len) (drop a.len a.out.now)) part (Some k) bs → b.out.now ≡ put_mid a.len (length a.out.now - a.len) a.out.now part → b.len ≡ a.len + k → b.out.ghost_name ≡ a.out.ghost_name → Wrote a b (Ok tt) bs
-lent a b bs part k h p out len held =
+pub lent : (a b : Out) (bs part : List ℕ) (k : ℕ) → Printed (take (length a.out.now - a.len) (drop a.len a.out.now)) part (Some k) bs → b.out.now ≡ put_mid a.len (length a.out.now - a.len) a.out.now part → b.len ≡ a.len + k → b.out.ghost_name ≡ a.out.ghost_name → Wrote a b (Ok tt) bs
+lent a b bs part k p out len held =
+    let h = a.filled in
     let o = a.out.now in
     let same = take_rest o a.len in
     let left = length-drop a.len o in
@@ -45,39 +46,6 @@ lent a b bs part k h p out len held =
       moved = λ _. to;
       front = λ _. rw (whole, take_at (take a.len o ++ bs) (drop (a.len + length bs) o) b.len (long ∙ sym to));
       back = λ _. rw (whole, drop_at (take a.len o ++ bs) (drop (a.len + length bs) o) b.len (long ∙ sym to), to);
-    }
-
-no_room : (bs : List ℕ) (n : ℕ) → None ≡ fit bs n → leb (length bs) n ≡ false
-no_room bs n e = grind (arith, nat_tests)
-
-too_far : (bs : List ℕ) (n len : ℕ) → len ≤ n → leb (length bs) (n - len) ≡ false → leb (len + length bs) n ≡ false
-too_far bs n len h e = grind (arith, nat_tests)
-
--- a printer that had no room left everything as it was
-pub record Unlent (a b : Out) (bs : List ℕ) : Type 0 where
-  pub wrote : Wrote a b (Err full) bs
-  pub bytes : b.out.now ≡ a.out.now
-
-pub unlent : (a b : Out) (bs part : List ℕ) → a.len ≤ length a.out.now → Printed (take (length a.out.now - a.len) (drop a.len a.out.now)) part None bs → b.out.now ≡ put_mid a.len (length a.out.now - a.len) a.out.now part → b.out.ghost_name ≡ a.out.ghost_name → Unlent a b bs
-unlent a b bs part h p out held =
-    let o = a.out.now in
-    let same = take_rest o a.len in
-    let left = length-drop a.len o in
-    let full_up = no_room bs _ p.count in
-    let is : part ≡ drop a.len o = p.bytes ∙ ap (λ t. cond t (bs ++ drop (length bs) (take (length o - a.len) (drop a.len o))) (take (length o - a.len) (drop a.len o))) full_up ∙ same in
-    let none : drop (length o - a.len) (drop a.len o) ≡ [] = drop_all (length o - a.len) (drop a.len o) (simp length-drop (omega arith)) in
-    let whole : put_mid a.len (length o - a.len) o part ≡ o = rw (none, append-nil, is) (take-append-drop a.len o) in
-    let over = too_far bs (length o) a.len h (ap (λ n. leb (length bs) n) (sym (ap length same ∙ left)) ∙ full_up) in
-    record {
-      wrote = record {
-        held = held;
-        fits = ap done (sym over);
-        long = ap length (out ∙ whole);
-        moved = λ ok. absurd (false≢true ok);
-        front = λ ok. absurd (false≢true ok);
-        back = λ ok. absurd (false≢true ok);
-      };
-      bytes = out ∙ whole;
     }
 
 -- one piece after another

@@ -1,5 +1,4 @@
 //! How lines and their items open and close.
-ghost use Rattle.std.specs.Prelude.{◌≡◌};
 ghost use Rattle.output.specs.Outputs.{Wrote};
 ghost use Rattle.words.specs.Vocabulary.{spelt};
 ghost use Rattle.bounds.specs.Bytes.{line_start, numbered_start, item_start, line_end};
@@ -9,16 +8,14 @@ use output::{Full, Out};
 use words::{Keyword, spelling};
 
 fn write_word(out: &mut Out, word: Keyword) -> Result<(), Full>
-    ensures held { out.new.out.ghost_name ≡ out.old.out.ghost_name }
-    ensures wrote { Wrote out.old out.new result (spelt word) }
+    ensures { Wrote out.old out.new result (spelt word) }
 {
     out.bytes(spelling(word))
 }
 
 /// `(` and the name of a line.
 pub(crate) fn open_line(out: &mut Out, line: Keyword) -> Result<(), Full>
-    ensures held { out.new.out.ghost_name ≡ out.old.out.ghost_name }
-    ensures wrote { Wrote out.old out.new result (line_start line) }
+    ensures { Wrote out.old out.new result (line_start line) }
 {
     out.bytes(b"(")?;
     write_word(out, line)
@@ -26,8 +23,7 @@ pub(crate) fn open_line(out: &mut Out, line: Keyword) -> Result<(), Full>
 
 /// `(`, the name of a line, a blank and its number.
 pub(crate) fn open_numbered(out: &mut Out, line: Keyword, number: usize) -> Result<(), Full>
-    ensures held { out.new.out.ghost_name ≡ out.old.out.ghost_name }
-    ensures wrote { Wrote out.old out.new result (numbered_start line number) }
+    ensures { Wrote out.old out.new result (numbered_start line number) }
 {
     open_line(out, line)?;
     out.bytes(b" ")?;
@@ -36,8 +32,7 @@ pub(crate) fn open_numbered(out: &mut Out, line: Keyword, number: usize) -> Resu
 
 /// A blank, `(`, the name of an item and a blank.
 pub(crate) fn open_item(out: &mut Out, item: Keyword) -> Result<(), Full>
-    ensures held { out.new.out.ghost_name ≡ out.old.out.ghost_name }
-    ensures wrote { Wrote out.old out.new result (item_start item) }
+    ensures { Wrote out.old out.new result (item_start item) }
 {
     out.bytes(b" (")?;
     write_word(out, item)?;
@@ -46,8 +41,7 @@ pub(crate) fn open_item(out: &mut Out, item: Keyword) -> Result<(), Full>
 
 /// An item with its number.
 pub(crate) fn write_item(out: &mut Out, item: Keyword, n: u64) -> Result<(), Full>
-    ensures held { out.new.out.ghost_name ≡ out.old.out.ghost_name }
-    ensures wrote { Wrote out.old out.new result (item_bytes item n) }
+    ensures { Wrote out.old out.new result (item_bytes item n) }
 {
     open_item(out, item)?;
     out.number(n)?;
@@ -56,8 +50,7 @@ pub(crate) fn write_item(out: &mut Out, item: Keyword, n: u64) -> Result<(), Ful
 
 /// `)` and a line feed.
 pub(crate) fn close_line(out: &mut Out) -> Result<(), Full>
-    ensures held { out.new.out.ghost_name ≡ out.old.out.ghost_name }
-    ensures wrote { Wrote out.old out.new result (line_end) }
+    ensures { Wrote out.old out.new result line_end }
 {
     out.bytes(b")\n")
 }

@@ -1,5 +1,4 @@
 //! The lines of the stops.
-ghost use Rattle.std.specs.Prelude.{◌≡◌, ◌≤◌, length};
 ghost use Rattle.output.specs.Outputs.{Wrote};
 ghost use Rattle.words.specs.declared.vocabulary.Keyword.TheVariants.{Charger};
 ghost use Rattle.book.specs.Books.{contents};
@@ -12,49 +11,39 @@ use words::Keyword;
 
 // ` (window OPENS CLOSES)`
 fn write_window(out: &mut Out, opens: u16, closes: u16) -> Result<(), Full>
-    ensures held { out.new.out.ghost_name ≡ out.old.out.ghost_name }
-    ensures wrote { Wrote out.old out.new result (window_bytes opens closes) }
+    ensures { Wrote out.old out.new result (window_bytes opens closes) }
 {
     open_item(out, Keyword::Window)?;
-    out.number(opens as u64)?;
+    out.number(u64::from(opens))?;
     out.bytes(b" ")?;
-    out.number(closes as u64)?;
+    out.number(u64::from(closes))?;
     out.bytes(b")")
 }
 
 fn write_charger(out: &mut Out, charger: bool) -> Result<(), Full>
-    ensures held { out.new.out.ghost_name ≡ out.old.out.ghost_name }
-    ensures wrote { Wrote out.old out.new result (item_bytes Charger (charger_number charger)) }
+    ensures { Wrote out.old out.new result (item_bytes Charger (charger_number charger)) }
 {
-    if charger {
-        write_item(out, Keyword::Charger, 1)
-    } else {
-        write_item(out, Keyword::Charger, 0)
-    }
+    write_item(out, Keyword::Charger, u64::from(charger))
 }
 
 // `(stop J (window OPENS CLOSES) (load L) (charger C))`
 fn write_stop(out: &mut Out, stop: usize, visit: Visit) -> Result<(), Full>
-    ensures held { out.new.out.ghost_name ≡ out.old.out.ghost_name }
-    ensures wrote { Wrote out.old out.new result (stop_bytes stop visit) }
+    ensures { Wrote out.old out.new result (stop_bytes stop visit) }
 {
     open_numbered(out, Keyword::Stop, stop)?;
     write_window(out, visit.opens, visit.closes)?;
-    write_item(out, Keyword::Load, visit.load as u64)?;
+    write_item(out, Keyword::Load, u64::from(visit.load))?;
     write_charger(out, visit.charger)?;
     close_line(out)
 }
 
 /// The lines of stops 1 to n.
 pub(crate) fn write_stops(out: &mut Out, book: &Book) -> Result<(), Full>
-    requires { out.old.len ≤ length out.old.out.now }
-    ensures held { out.new.out.ghost_name ≡ out.old.out.ghost_name }
-    ensures wrote { Wrote out.old out.new result (stops_bytes (contents book.now) (contents book.now).stops 1) }
+    ensures { Wrote out.old out.new result (stops_bytes (contents book.now) (contents book.now).stops 1) }
 {
-    let mut stop = 1;
-    while let Some(visit) = book.visit(stop) {
-        write_stop(out, stop, visit)?;
-        stop += 1;
+    // by number: a book hands out one visit at a time
+    for stop in 1..=book.stops() {
+        write_stop(out, stop, book.visit(stop).unwrap())?;
     }
     Ok(())
 }

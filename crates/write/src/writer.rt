@@ -1,8 +1,8 @@
 //! Writing a whole deck.
-ghost use Rattle.std.specs.Prelude.{◌≡◌, ℕ, ◌≤◌, List, length, replicate, ◌==◌};
+ghost use Rattle.std.specs.Prelude.{◌≡◌, ℕ, List};
 ghost use Rattle.output.specs.Outputs.{Wrote};
 ghost use Rattle.book.specs.Books.{contents};
-ghost use Rattle.deck.specs.Bytes.{first_line_bytes, lines_bytes, end_bytes, deck_bytes};
+ghost use Rattle.deck.specs.Bytes.{lines_bytes, end_bytes, deck_bytes};
 ghost use Rattle.deck.specs.Trips.{ReadBack, WrittenBack};
 ghost use Rattle.write.specs.Writing.{fitted, filled};
 
@@ -14,45 +14,21 @@ use book::Book;
 use output::{Full, Out};
 use words::Keyword;
 
-fn write_first(out: &mut Out, book: &Book) -> Result<(), Full>
-    ensures held { out.new.out.ghost_name ≡ out.old.out.ghost_name }
-    ensures wrote { Wrote out.old out.new result (first_line_bytes (contents book.now).stops (contents book.now).fleet) }
-{
-    let stops = book.stops();
-    let fleet = book.fleet();
-    write_first_line(out, stops, fleet)
-}
-
 // `(end)`
 fn write_end(out: &mut Out) -> Result<(), Full>
-    ensures held { out.new.out.ghost_name ≡ out.old.out.ghost_name }
-    ensures wrote { Wrote out.old out.new result (end_bytes) }
+    ensures { Wrote out.old out.new result end_bytes }
 {
     open_line(out, Keyword::End)?;
     close_line(out)
 }
 
 fn write_lines(out: &mut Out, book: &Book) -> Result<(), Full>
-    ensures held { out.new.out.ghost_name ≡ out.old.out.ghost_name }
-    ensures wrote { Wrote out.old out.new result (lines_bytes (contents book.now)) }
+    ensures { Wrote out.old out.new result (lines_bytes (contents book.now)) }
 {
-    write_first(out, book)?;
+    write_first_line(out, book.stops(), book.fleet())?;
     write_stops(out, book)?;
     write_legs(out, book)?;
     write_end(out)
-}
-
-// Whether it is the book without stops.
-fn is_empty(book: &Book) -> bool
-    ensures { result ≡ ((contents book.now).stops == 0) }
-{
-    book.stops() == 0
-}
-
-fn wipe(buffer: &mut [u8])
-    ensures { buffer.new ≡ replicate (length buffer.old) 0 }
-{
-    buffer.fill(0);
 }
 
 /// Writes the deck of a book to the front of a buffer: answers how many bytes these are, and leaves the
@@ -65,18 +41,15 @@ pub fn write_deck(book: &Book, buffer: &mut [u8]) -> Result<usize, Full>
     ensures read_back { ReadBack (contents book.now) }
     ensures written_back { (text : List ℕ) → WrittenBack text }
 {
-    if is_empty(book) {
+    if book.stops() == 0 {
         return Ok(0);
     }
-    let mut out = Out {
-        out: buffer,
-        len: 0,
-    };
+    let mut out = Out::new(buffer);
     match write_lines(&mut out, book) {
-        Ok(()) => Ok(out.len),
-        Err(Full) => {
-            wipe(out.out);
-            Err(Full)
+        Ok(()) => Ok(out.filled()),
+        Err(full) => {
+            buffer.fill(0);
+            Err(full)
         }
     }
 }

@@ -1,11 +1,5 @@
-use Rattle.output.proofs.Lent.{writes, stays}
+use Rattle.output.proofs.Lent.{writes}
 use Rattle.write.proofs.items.write_item.Goals as goal
 
-pub returns-in_err-open_item : goal.returns-in_err-open_item
-returns-in_err-open_item c = let w = stays _ _ c.in_err-open_item.ensures.wrote c.from_residual.ensures.1 in record { held = w.held; wrote = w }
-
-pub returns-in_err-number : goal.returns-in_err-number
-returns-in_err-number c = let w = writes c.in_ok-open_item.ensures.wrote (stays _ _ c.in_err-number.ensures.wrote c.from_residual-in_err-number.ensures.1) in record { held = w.held; wrote = w }
-
 pub returns : goal.returns
-returns c = let w = writes c.in_ok-open_item.ensures.wrote (writes c.in_ok-number.ensures.wrote c.bytes.ensures.wrote) in record { held = w.held; wrote = w }
+returns c = writes c.in_ok-open_item.ensures (writes c.in_ok-number.ensures.wrote c.bytes.ensures.wrote)
