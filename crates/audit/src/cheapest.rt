@@ -10,7 +10,7 @@ pub(crate) enum Route {
 }
 
 /// By their reduced costs, `None` where a route is not admitted; the first on ties.
-// By cases: the least of two `Option`s would be `None`.
+// By cases: `None`, a route that is not admitted, would be the least of two `Option`s.
 pub(crate) fn cheaper_of(first: Option<i64>, second: Option<i64>) -> Option<Route>
     ensures { result ≡ cheapest_of first second }
 {

@@ -10,6 +10,7 @@ impl fmt::Display for Members {
     fn fmt<W: fmt::Write>(&self, f: &mut fmt::Formatter<W>) -> fmt::Result {
         let mut separator = "";
         write!(f, "{{")?;
+        // a test in the loop: over a `filter` the proof did not close
         for number in 0..64 {
             if self.0.has(number) {
                 write!(f, "{separator}{number}")?;

@@ -59,7 +59,7 @@ fn prepare(
         }
     }
     let stops = points.len().saturating_sub(1);
-    // a refused draw makes no cut, and as many draws are made at most
+    // counted by hand: a refused draw makes no cut, and after 64 draws it stops
     let mut made = 0;
     for _ in 0..64 {
         if made < cuts {
@@ -73,6 +73,7 @@ fn prepare(
     Ok(made)
 }
 
+// Printed piece by piece: the words are this program's own.
 fn print_answer(rt: &HostRuntime, answer: Result<Priced<usize>, PriceRefusal>) -> io::Result<()> {
     match answer {
         Ok(Priced { lowest, counts }) => {

@@ -83,7 +83,7 @@ pub(crate) fn round(points: &[Point], draws: &mut Draws) -> Result<Book, OutOfRa
     };
     let stops = points.len().saturating_sub(1);
     let mut book = Book::new(stops, fleet)?;
-    // as many draws whatever the number of stops
+    // 60 visits are drawn for every number of stops, so that the later draws are the same
     for stop in 1..61 {
         let visit = visit(draws);
         if stop <= stops {

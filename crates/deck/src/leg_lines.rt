@@ -13,7 +13,8 @@ use form::{FormFault, Mark, due_mark};
 use text::Cursor;
 use words::Keyword;
 
-// Two functions, for cost and minutes: in one, the proof did not close where its branches meet.
+// Two parameters, from and to: everywhere a leg is asked for by its two numbers. And two functions, for cost
+// and minutes: in one function the proof did not close where its branches meet.
 fn read_cost(cursor: &mut Cursor, from: usize, to: usize) -> Result<u32, BookFault>
     ensures { Read same cursor.old cursor.new result (number_within 0 (most_cost_between from to)) }
 {

@@ -7,6 +7,7 @@ pub struct Lowest<R> {
     /// the lowest reduced cost, in mils
     pub cost: i64,
     /// its route: the stops themselves, or how many numbers of a row they are
+    // a price answers a count, for it writes the route straight into the lent row
     pub route: R,
     /// the credit, and for each van the lesser of 0 and the lowest: no plan costs less
     pub floor: i64,

@@ -29,7 +29,8 @@ impl fmt::Display for Counts {
 /// How far labelling has come, beside what the store shows.
 #[derive(Clone, Copy)]
 pub(crate) struct Progress {
-    /// the lowest total so far, and the place of its last label: the pair of the definitions
+    /// the lowest total so far, and the place of its last label
+    // a pair and no struct: the definition of a turn on a store has this pair
     pub(crate) best: Option<(i64, usize)>,
     pub(crate) counts: Counts,
 }

@@ -39,8 +39,8 @@ fn try_finish<T: Tier>(
     lower(label.cost + home, place, best)
 }
 
-// Two facts stay in the contracts: `sound` is of a label under this tier, and the bound of `few` is another
-// in the middle of a turn.
+// Two facts stay in the contracts: `sound` is of a label under this tier, and the bound of `few` is 2^32
+// before a turn and 2^40 within it.
 impl<T: Tier> Desk<'_, T> {
     ghost use Rattle.price.specs.Desks.{answers, hand, so_far, Comes};
 

@@ -1,5 +1,4 @@
 //! Calls and answers, as a planner reads them. Money is in mils.
-// Printed piece by piece: the words are this program's own.
 use price::{Counts, Lowest, Priced, ROW_LENGTH};
 use sitting::{Answer, Call, Done};
 use std::io;
@@ -12,6 +11,7 @@ fn print_members(rt: &HostRuntime, members: StopSet) -> io::Result<()> {
     Ok(())
 }
 
+// Printed piece by piece: the words are this program's own.
 fn print_call(rt: &HostRuntime, call: Call) -> io::Result<()> {
     match call {
         Call::Set {
@@ -65,7 +65,7 @@ fn print_answer(rt: &HostRuntime, answer: &Answer) -> io::Result<()> {
                 Some(lowest) => print_lowest(rt, lowest)?,
                 None => print!(rt; "no route")?,
             }
-            // The counts alone do not tell a planner what is kept.
+            // Not by `Display`: here the words say that labels are kept.
             let Counts {
                 kept,
                 struck,

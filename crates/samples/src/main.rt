@@ -11,6 +11,7 @@ use prices::{
 };
 use std::io;
 
+// Printed piece by piece: the words are this program's own.
 fn print_price(rt: &HostRuntime, price: Priced<&[usize]>) -> io::Result<()> {
     let Priced { lowest, counts } = price;
     let Some(Lowest { cost, route, floor }) = lowest else {

@@ -42,6 +42,7 @@ impl<T: Tier> Sitting<T> {
     }
 
     /// A tighten goes to the pile.
+    // Four numbers, as the rules of this project name the call; each tier takes them apart at once.
     pub fn tighten(
         &mut self,
         tier: usize,

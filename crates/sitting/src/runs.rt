@@ -47,6 +47,7 @@ fn told(res: Result<Priced<usize>, PriceRefusal>, mut row: Vec<usize>) -> Answer
     Ok(Done::Priced(Priced { lowest, counts }))
 }
 
+// That the vans stay is said at each call: a call with a `&mut` may change any field.
 impl<T: Tier> Sitting<T> {
     // A price with a store and a row of its own, made only if it is not refused before; a row longer
     // than a price needs answers alike.
