@@ -1,9 +1,11 @@
 //! The desk at which labels are made.
-ghost use Rattle.std.specs.Prelude.{◌≡◌, ◌^◌, ◌<◌, ◌≤◌, length, None};
+ghost use Rattle.std.specs.Prelude.{◌≡◌, ◌^◌, ◌<◌, ◌≤◌, length, replicate, None, slice_set};
 ghost use Rattle.std.proofs.Props.{props};
 ghost use Rattle.store.specs.Works.{Beside};
 ghost use Rattle.labelling.specs.Labelling.{begin};
+ghost use Rattle.price.specs.Labels.{blank as «blank_at», waiting as «waiting_at», root as «root_at»};
 ghost use Rattle.price.specs.Places.{Unused};
+ghost use Rattle.price.specs.Progress.{at_first};
 
 use crate::label::Label;
 use crate::progress::Progress;
@@ -31,6 +33,9 @@ impl<'a, T: Tier> Desk<'a, T> {
         requires short { length store.old ≤ 2 ^ 18 }
         ensures tier { result.tier ≡ tier.entry }
         ensures lent { result.store.ghost_name ≡ store.entry.ghost_name }
+        ensures root { result.store.now ≡ slice_set (replicate (length store.old) («blank_at» (answers result).start)) 0 («waiting_at» 0 («root_at» (answers result).start)) }
+        ensures used { result.used ≡ 1 }
+        ensures progress { result.progress ≡ at_first }
         ensures begun { Beside (hand result) (answers result) (length store.old) None (so_far result) (begin (answers result)) }
     {
         let start = tier.start();
