@@ -39,6 +39,24 @@ pub record DrivingLaws {S E : Type 0} (d : Driving S E) (p : Contents) : Type 0 
   pub drive_raises_key : (i j : ℕ) (s t : S) → IsLeg p.stops i j → d.drive p.fleet (leg_at p i j) (visit_at p j) s ≡ Ok t → d.key s < d.key t
   pub gap_orders_keys : (a c : S) (g : ℕ) → d.gap a c ≡ Some g → d.key a ≤ d.key c
 
+-- WHAT IT SAYS THAT A LEG IS DRIVEN
+
+-- there is such a leg, and by the rules the van may drive it
+pub record Driven {S E : Type 0} (d : Driving S E) (p : Contents) (s : S) (i j : ℕ) (t : S) : Type 0 where
+  pub leg : IsLeg p.stops i j
+  pub drives : d.drive p.fleet (leg_at p i j) (visit_at p j) s ≡ Ok t
+
+pub driven_was : {S E : Type 0} (d : Driving S E) (p : Contents) (s : S) (i j : ℕ) (t : S) → driven d p s i j ≡ Ok t → Driven d p s i j t
+driven_was {S} {E} d p s i j t e = by (can_go p i j) refl e
+  where
+    by : (b : Bool) → can_go p i j ≡ b → cond {A = Result S E} b (d.drive p.fleet (leg_at p i j) (visit_at p j) s) (Err d.no_leg) ≡ Ok t → Driven d p s i j t
+    by true f g = record { leg = leg_of p i j f; drives = g }
+    by false f g = absurd (err_ok g)
+
+-- the other way
+pub driven_is : {S E : Type 0} (d : Driving S E) (p : Contents) (s : S) (i j : ℕ) (t : S) → IsLeg p.stops i j → d.drive p.fleet (leg_at p i j) (visit_at p j) s ≡ Ok t → driven d p s i j ≡ Ok t
+driven_is d p s i j t l e = let x = of_leg p i j l in rw (x, e)
+
 module _ {S E : Type 0} (d : Driving S E) (p : Contents) (ok : InRanges p) (homes : (s : S) (i : ℕ) → d.finish p s i ≡ home_cost (gone_home d p s i)) (laws : DrivingLaws d p) where
   abbrev base : Base S
   base = base_of d p
@@ -51,11 +69,10 @@ module _ {S E : Type 0} (d : Driving S E) (p : Contents) (ok : InRanges p) (home
     cost : x ≡ pos (leg_at p i j).cost
 
   reach : (s t : S) (i j : ℕ) (x : ℤ) → base.reach s i j ≡ Some (t, x) → Reached s i j t x
-  reach s t i j x e = let k = costs (leg_at p i j).cost (driven d p s i j) t x e in by (can_go p i j) refl k.was k.cost
-    where
-      by : (b : Bool) → can_go p i j ≡ b → cond {A = Result S E} b (d.drive p.fleet (leg_at p i j) (visit_at p j) s) (Err d.no_leg) ≡ Ok t → x ≡ pos (leg_at p i j).cost → Reached s i j t x
-      by true f g h = record { leg = leg_of p i j f; drives = g; cost = h }
-      by false f g h = absurd (err_ok g)
+  reach s t i j x e =
+      let k = costs (leg_at p i j).cost (driven d p s i j) t x e in
+      let v = driven_was d p s i j t k.was in
+      record { leg = v.leg; drives = v.drives; cost = k.cost }
 
   reach_plain : (s t : S) (i j : ℕ) (x : ℤ) → (plain base).reach s i j ≡ Some (t, x) → Reached s i j t x
   reach_plain s t i j x e = reach s t i j x (plain_was (base.reach s i j) t x e)
@@ -90,7 +107,7 @@ module _ {S E : Type 0} (d : Driving S E) (p : Contents) (ok : InRanges p) (home
     shut_over_four = λ deep. absurd (omega arith);
   }
 
-  follows : (i j : ℕ) (a c t : S) (g : ℕ) (y : ℤ) → d.gap a c ≡ Some g → (plain base).reach c i j ≡ Some (t, y) → ReachesWithin (plain base) i j a t (y +ℤ pos g)
+  pub follows : (i j : ℕ) (a c t : S) (g : ℕ) (y : ℤ) → d.gap a c ≡ Some g → (plain base).reach c i j ≡ Some (t, y) → ReachesWithin (plain base) i j a t (y +ℤ pos g)
   follows i j a c t g y e f =
       let r = reach_plain c t i j y f in
       let w = laws.drive_follows i j a c t g e r.drives in
@@ -107,12 +124,11 @@ module _ {S E : Type 0} (d : Driving S E) (p : Contents) (ok : InRanges p) (home
     where
       goes : (r : Reached c i j t y) (w : DrivesWithin d p i j a t g) → base.reach a i j ≡ Some (w.next, y)
       goes r w =
-          let x = of_leg p i j r.leg in
-          let z = w.drives in
+          let x = driven_is d p a i j w.next r.leg w.drives in
           let cost = r.cost in
-          rw (x, z, cost)
+          rw (x, cost)
 
-  follows_home : (i : ℕ) (a c : S) (g : ℕ) (y : ℤ) → d.gap a c ≡ Some g → d.finish p c i ≡ Some y → FinishesWithin (plain base) i a (y +ℤ pos g)
+  pub follows_home : (i : ℕ) (a c : S) (g : ℕ) (y : ℤ) → d.gap a c ≡ Some g → d.finish p c i ≡ Some y → FinishesWithin (plain base) i a (y +ℤ pos g)
   follows_home i a c g y e f =
       let w = home c i y f in
       record {
