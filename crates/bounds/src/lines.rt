@@ -26,7 +26,7 @@ pub fn misplaced(name: Name) -> BookFault
 fn is_due(name: Name, due: Keyword) -> Result<(), BookFault>
     ensures { result ≡ line_named due (named name) }
 {
-    if name.value == due {
+    if name.value.is(due) {
         Ok(())
     } else {
         Err(misplaced(name))

@@ -1,6 +1,6 @@
 //! The vocabulary.
 ghost use Rattle.std.specs.Prelude.{◌≡◌};
-ghost use Rattle.words.specs.Vocabulary.{opens_line};
+ghost use Rattle.words.specs.Vocabulary.{opens_line, same_word};
 
 /// A word of a form.
 #[derive(Clone, Copy, PartialEq, Eq)]
@@ -49,6 +49,13 @@ pub(crate) const WORDS: [Keyword; 18] = [
 ];
 
 impl Keyword {
+    /// Whether it is the same word as another.
+    pub fn is(self, other: Keyword) -> bool
+        ensures { result ≡ same_word self other }
+    {
+        self == other
+    }
+
     /// Whether it is the name of a form that stands on a line of its own.
     pub fn opens_line(self) -> bool
         ensures { result ≡ opens_line self }
