@@ -1,7 +1,7 @@
 -- What a slice holds after its rest was lent to a printer.
 use Rattle.std.proofs.Common.{◌≡◌, ℕ, ◌+◌, ◌-◌, ◌≤◌, leb, List, [], ◌++◌, length, take, drop, IsErrAnd, Some, Ok, Err, Result, sym, refl, ap, ◌∙◌, append_assoc, arith, length-append, length-drop}
 use borrow.Rule.Slice.PartMut.{put_mid}
-use Rattle.std.proofs.lemmas.List.{take_rest, drop-drop, drop_all, append-nil, take_at, drop_at, length-take-le}
+use Rattle.std.proofs.lemmas.List.{take_rest, drop-drop, drop_all, append-nil, take_at, drop_at, length-take-le, take-append-drop}
 use Rattle.std.proofs.lemmas.Bool.{le-leb, false≢true}
 use Rattle.std.proofs.lemmas.Result.{err_from_is_err_and}
 use Rattle.std.proofs.lemmas.Bool.Decides.{nat_tests}
@@ -26,9 +26,8 @@ module _ (o bs part : List ℕ) (len : ℕ) (inside : len + length bs ≤ length
   pub front_long : length (take len o ++ bs) ≡ len + length bs
   front_long = simp (length-append) (omega (arith, length-take-le len o (omega arith)))
 
-pub lent : (a b : Out) (bs part : List ℕ) (k : ℕ) → Printed (take (length a.out.now - a.len) (drop a.len a.out.now)) part (Some k) bs → b.out.now ≡ put_mid a.len (length a.out.now - a.len) a.out.now part → b.len ≡ a.len + k → b.out.ghost_name ≡ a.out.ghost_name → Wrote a b (Ok tt) bs
-lent a b bs part k p out len held =
-    let h = a.filled in
+pub lent : (a b : Out) (bs part : List ℕ) (k : ℕ) → a.len ≤ length a.out.now → Printed (take (length a.out.now - a.len) (drop a.len a.out.now)) part (Some k) bs → b.out.now ≡ put_mid a.len (length a.out.now - a.len) a.out.now part → b.len ≡ a.len + k → b.out.ghost_name ≡ a.out.ghost_name → Wrote a b (Ok tt) bs
+lent a b bs part k h p out len held =
     let o = a.out.now in
     let same = take_rest o a.len in
     let left = length-drop a.len o in
@@ -47,6 +46,14 @@ lent a b bs part k p out len held =
       front = λ _. rw (whole, take_at (take a.len o ++ bs) (drop (a.len + length bs) o) b.len (long ∙ sym to));
       back = λ _. rw (whole, drop_at (take a.len o ++ bs) (drop (a.len + length bs) o) b.len (long ∙ sym to), to);
     }
+
+-- what the slice of an empty writer then holds
+pub all_written : {a b : Out} {bs : List ℕ} → Wrote a b (Ok tt) bs → a.len ≡ 0 → b.out.now ≡ bs ++ drop (length bs) a.out.now
+all_written {a} {b} {bs} w none =
+    let far : b.len ≡ length bs = omega (arith, w.moved refl) in
+    let front : take b.len b.out.now ≡ bs = w.front refl ∙ ap (λ n. take n a.out.now ++ bs) none in
+    let back : drop b.len b.out.now ≡ drop (length bs) a.out.now = w.back refl ∙ ap (λ n. drop n a.out.now) far in
+    sym (take-append-drop b.len b.out.now) ∙ (λ i. front i ++ back i)
 
 -- one piece after another
 pub writes : {a b d : Out} {r : Result (Unit {0}) Full} {xs ys : List ℕ} → Wrote a b (Ok tt) xs → Wrote b d r ys → Wrote a d r (xs ++ ys)

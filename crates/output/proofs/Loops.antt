@@ -1,14 +1,28 @@
 -- A loop that writes one piece after another.
-use Rattle.std.proofs.Common.{◌≡◌, ℕ, zero, suc, ◌+◌, ◌-◌, ◌<◌, List, [], ◌++◌, length, take, IsErrAnd, Ok, Err, Result, sym, refl, ap, ◌∙◌, append-nil, append_assoc, add-zero, arith}
-use Rattle.std.proofs.lemmas.Bool.{le-leb}
+use Rattle.std.proofs.Common.{◌≡◌, ℕ, zero, suc, ◌+◌, ◌-◌, ◌≤◌, ◌<◌, Bool, true, false, List, [], ◌++◌, length, take, IsErrAnd, Ok, Err, Result, sym, refl, ap, ◌∙◌, append-nil, append_assoc, add-zero, arith}
+use Rattle.std.proofs.lemmas.Bool.{leb-true, le-leb}
 use Rattle.output.specs.declared.out.Out.{Out}
 use Rattle.output.specs.declared.out.Full.{Full}
 use Rattle.output.specs.Outputs.{Wrote, done, pieces}
 use Rattle.output.proofs.Lent.{writes, stays}
 
-pub nothing : (a : Out) → Wrote a a (Ok tt) []
-nothing a =
-    let room = a.filled in
+-- no more is filled than there is
+abbrev pub Room : Out → Type 0
+Room a = a.len ≤ length a.out.now
+
+done_ok : (b : Bool) → Ok tt ≡ done b → b ≡ true
+done_ok true e = refl
+done_ok false e = cc
+
+pub room_after : {a b : Out} {bs : List ℕ} → Wrote a b (Ok tt) bs → Room b
+room_after {a} {b} {bs} w =
+    let fits = leb-true (a.len + length bs) (length a.out.now) (done_ok _ w.fits) in
+    let at = w.moved refl in
+    let long = w.long in
+    omega arith
+
+pub nothing : (a : Out) → Room a → Wrote a a (Ok tt) []
+nothing a room =
     record {
       held = refl;
       fits = ap done (sym (le-leb (a.len + 0) (length a.out.now) (omega arith)));

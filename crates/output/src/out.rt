@@ -1,6 +1,4 @@
 //! An output slice, and how much of it is filled.
-ghost use Rattle.std.specs.Prelude.{◌≤◌, length};
-
 use super::printers::{print_bytes, print_number};
 
 /// There is no room for what was to be written.
@@ -20,17 +18,16 @@ impl Full {
     }
 }
 
-/// An output slice, filled from its front.
+/// An output slice of which the first `len` bytes are filled. Where it has fewer, nothing fits.
 // Slice and length stay apart: each printer is lent the rest, from the filled length on.
 #[derive(Drop)]
 pub struct Out<'a> {
     pub out: &'a mut [u8],
     pub len: usize,
-    ghost filled: { len ≤ length out.now },
 }
 
 impl<'a> Out<'a> {
-    ghost use Rattle.std.specs.Prelude.{◌≡◌, ℕ, List, decimal, ◌<◌, length, MatchResult};
+    ghost use Rattle.std.specs.Prelude.{◌≡◌, ℕ, List, decimal, ◌≤◌, ◌<◌, length, MatchResult};
     ghost use Rattle.output.specs.Outputs.{Printed, Wrote, LeftAlone};
 
     /// A slice of which nothing is filled.
@@ -44,7 +41,7 @@ impl<'a> Out<'a> {
 
     /// A slice of which the first `len` bytes are filled; refused where it has fewer.
     pub fn resume(out: &'a mut [u8], len: usize) -> Result<Self, Full>
-        ensures { MatchResult result (λ o. (o.out.ghost_name ≡ out.entry.ghost_name) × (o.out.now ≡ out.old) × (o.len ≡ len)) (λ _. length out.old < len) }
+        ensures { MatchResult result (λ o. (o.out.ghost_name ≡ out.entry.ghost_name) × (o.out.now ≡ out.old) × (o.len ≡ len) × (len ≤ length out.old)) (λ _. length out.old < len) }
     {
         if len > out.len() {
             return Err(Full);
@@ -85,6 +82,9 @@ impl<'a> Out<'a> {
         ensures wrote { Wrote self.old self.new result bytes }
         ensures left { LeftAlone self.old self.new result }
     {
+        if self.len > self.out.len() {
+            return Err(Full);
+        }
         self.len += printer(&mut self.out[self.len..]).ok_or(Full)?;
         Ok(())
     }

@@ -1,4 +1,5 @@
 //! The lines of the stops.
+ghost use Rattle.std.specs.Prelude.{◌≤◌, length};
 ghost use Rattle.output.specs.Outputs.{Wrote};
 ghost use Rattle.words.specs.declared.vocabulary.Keyword.TheVariants.{Charger};
 ghost use Rattle.book.specs.Books.{contents};
@@ -39,6 +40,7 @@ fn write_stop(out: &mut Out, stop: usize, visit: Visit) -> Result<(), Full>
 
 /// The lines of stops 1 to n.
 pub(crate) fn write_stops(out: &mut Out, book: &Book) -> Result<(), Full>
+    requires { out.old.len ≤ length out.old.out.now }
     ensures { Wrote out.old out.new result (stops_bytes (contents book.now) (contents book.now).stops 1) }
 {
     // by number: a book hands out one visit at a time

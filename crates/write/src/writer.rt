@@ -35,13 +35,15 @@ fn write_lines(out: &mut Out, book: &Book) -> Result<(), Full>
 /// others. The empty book is written as no bytes. Where the deck does not fit, the whole buffer becomes
 /// zeros. What is written of a book is read back as that book, and of every text that reads, the bytes
 /// read are those that are written of its book.
+#[tactic(auto, using(std::proofs::lemmas::Grind::common_steps, output::proofs::Lent::all_written))]
 pub fn write_deck(book: &Book, buffer: &mut [u8]) -> Result<usize, Full>
     ensures count { result ≡ fitted (deck_bytes (contents book.now)) buffer.old }
     ensures bytes { buffer.new ≡ filled (deck_bytes (contents book.now)) buffer.old }
     ensures read_back { ReadBack (contents book.now) }
     ensures written_back { (text : List ℕ) → WrittenBack text }
 {
-    if book.stops() == 0 {
+    let empty = book.stops() == 0;
+    if empty {
         return Ok(0);
     }
     let mut out = Out::new(buffer);

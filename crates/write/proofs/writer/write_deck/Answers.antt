@@ -2,11 +2,11 @@ use Rattle.book.proofs.Kept.{in_ranges}
 use Rattle.deck.proofs.DeckTrips.{read_back, written_back}
 use Rattle.write.proofs.writer.write_deck.Goals as goal
 
-pub returns-then-stops-eq0-clause-read_back : goal.returns-then-stops-eq0-clause-read_back
-returns-then-stops-eq0-clause-read_back c = read_back _ (in_ranges c.args.book.now)
+pub returns-then-empty-clause-read_back : goal.returns-then-empty-clause-read_back
+returns-then-empty-clause-read_back c = read_back _ (in_ranges c.args.book.now)
 
-pub returns-then-stops-eq0-clause-written_back : goal.returns-then-stops-eq0-clause-written_back
-returns-then-stops-eq0-clause-written_back c = written_back
+pub returns-then-empty-clause-written_back : goal.returns-then-empty-clause-written_back
+returns-then-empty-clause-written_back c = written_back
 
 pub returns-in-Ok-clause-read_back : goal.returns-in-Ok-clause-read_back
 returns-in-Ok-clause-read_back c = read_back _ (in_ranges c.args.book.now)

@@ -1,4 +1,5 @@
 use Rattle.output.proofs.Lent.{writes, stays}
+use Rattle.output.proofs.Loops.{room_after}
 use Rattle.write.proofs.writer.write_lines.Goals as goal
 
 pub returns-in_err-write_first_line : goal.returns-in_err-write_first_line
@@ -20,3 +21,9 @@ pub returns : goal.returns
 returns c =
     let w = rw (c.stops.ensures, c.fleet.ensures) at c.in_ok-write_first_line.ensures in
     writes w (writes c.in_ok-write_stops.ensures (writes c.in_ok-write_legs.ensures c.write_end.ensures))
+
+pub write_stops-requires : goal.write_stops-requires
+write_stops-requires c = room_after c.in_ok-write_first_line.ensures
+
+pub write_legs-requires : goal.write_legs-requires
+write_legs-requires c = room_after c.in_ok-write_stops.ensures
