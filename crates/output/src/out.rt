@@ -18,7 +18,7 @@ impl Full {
     }
 }
 
-/// An output slice of which the first `len` bytes are filled. Where it has fewer, nothing fits.
+/// An output slice of which the first `len` bytes are filled. Where it has fewer than that, nothing more fits.
 // Slice and length stay apart: each printer is lent the rest, from the filled length on.
 #[derive(Drop)]
 pub struct Out<'a> {
