@@ -10,3 +10,4 @@ pub mod Sums
 pub mod Marks
 pub mod Plans
 pub mod Arrays
+pub mod Fronts
