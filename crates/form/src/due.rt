@@ -27,9 +27,10 @@ pub fn undue(token: Token) -> FormFault
 pub fn due_mark(cursor: &mut Cursor, due: Mark) -> Result<(), FormFault>
     ensures { Read same cursor.old cursor.new result (mark_due due) }
 {
-    match cursor.next()? {
-        Token::Mark(mark, _) if mark == due => Ok(()),
-        token => Err(undue(token)),
+    // before `?`: the copy that it makes of the token waits for the bytes that were just written
+    match cursor.next() {
+        Ok(Token::Mark(mark, _)) if mark == due => Ok(()),
+        found => Err(undue(found?)),
     }
 }
 

@@ -76,6 +76,8 @@ impl<'a> Cursor<'a> {
     }
 
     // The longest run of letters from here.
+    // Inlined: else each token, a mark too, costs the clearing of a place for what this answers.
+    #[inline(always)]
     fn word(&mut self) -> Token<'a>
         ensures text { self.new.text.now ≡ self.old.text.now }
         ensures token { with_place seen (ok_token result) self.new.at ≡ word_at self.old.text.now self.old.at }
